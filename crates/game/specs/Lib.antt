@@ -1,0 +1,5 @@
+pub mod Game
+pub mod Plan
+pub mod Counterstrategy
+pub mod Play
+pub mod Theorems
