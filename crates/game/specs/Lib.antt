@@ -3,3 +3,8 @@ pub mod Plan
 pub mod Counterstrategy
 pub mod Play
 pub mod Theorems
+pub mod Refusals
+pub mod Content
+pub mod Reading
+pub mod Meaning
+pub mod Parts
