@@ -1,3 +1,4 @@
-pub mod Steps
+pub mod FormulaSteps
 pub mod Rows
 pub mod Whole
+pub mod Sections

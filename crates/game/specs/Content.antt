@@ -88,11 +88,24 @@ file-of c =
     ++ ((length (c .promises) ∷ with-lengths (c .promises)) ++ ((length (c .goals) ∷ with-lengths (c .goals))
     ++ (length (c .starts) ∷ two-bytes (c .starts)))))))
 
--- the first n formulas of a row in which each stands after its length; one that lacks is empty
+-- the first formula of a row in which each stands after its length, and the row after it
+abbrev pub first-formula : List ℕ → List ℕ
+first-formula [] = []
+first-formula (l ∷ bs) = take l bs
+
+abbrev pub other-formulas : List ℕ → List ℕ
+other-formulas [] = []
+other-formulas (l ∷ bs) = drop l bs
+
+-- the first n formulas of such a row; one that lacks is empty
 abbrev pub formulas-of : ℕ → List ℕ → List (List ℕ)
 formulas-of zero bs = []
-formulas-of (suc n) [] = [] ∷ formulas-of n []
-formulas-of (suc n) (l ∷ bs) = take l bs ∷ formulas-of n (drop l bs)
+formulas-of (suc n) bs = first-formula bs ∷ formulas-of n (other-formulas bs)
+
+-- formula i of such a row
+abbrev pub nth-formula : ℕ → List ℕ → List ℕ
+nth-formula zero bs = first-formula bs
+nth-formula (suc i) bs = nth-formula i (other-formulas bs)
 
 -- the first n states of a row in which each has two bytes; one that lacks is 0
 abbrev pub starts-of : ℕ → List ℕ → List ℕ

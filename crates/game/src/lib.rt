@@ -2,4 +2,6 @@
 mod reader;
 pub mod refusal;
 pub mod rules;
+mod section;
+mod steps;
 pub mod widths;

@@ -1,7 +1,7 @@
 use mathlib.Core.Path.{refl}
 use native.Mathlib.Omega.{arith}
 use Rattle.std.proofs.shelf.Ways.{tells}
-use Rattle.game.proofs.Steps.{byte-step}
+use Rattle.game.proofs.FormulaSteps.{byte-step}
 use Rattle.game.proofs.reader.Reader.byte.Needs as need
 
 pub returns : need.returns

@@ -4,7 +4,7 @@ use Prim.Native.Nat.{ℕ, min}
 use lib.ListN.{length, take}
 use Rattle.game.specs.declared.refusal.Refusal.the-variants.{Length}
 use Rattle.game.specs.Reading.{refused}
-use Rattle.game.proofs.Steps.{formula-long, formula-fault}
+use Rattle.game.proofs.FormulaSteps.{formula-long, formula-fault}
 use Rattle.game.proofs.reader.Reader.formula.Needs as need
 
 pub returns-in-Ok : need.returns-in-Ok
