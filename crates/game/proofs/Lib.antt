@@ -6,3 +6,4 @@ pub mod Wins
 pub mod Leading
 pub mod Beats
 pub mod Loses
+pub mod Tested

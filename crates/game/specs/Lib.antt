@@ -3,3 +3,4 @@ pub mod Plan
 pub mod Counterstrategy
 pub mod Play
 pub mod Theorems
+pub mod Finite

@@ -1,4 +1,5 @@
 // The theorems of winning. Each function's contract is one theorem, so that the check asks for its proof; nothing is computed.
+ghost use Rattle.game.specs.Finite.{Counter-tested, Plan-tested};
 ghost use Rattle.game.specs.Theorems.{Beaten-loses, Counter-wins, Exactly, Follows, Never-both, Plan-wins, Stays-on-plan, Steps-on-plan};
 
 // A plan that holds together wins from each state that it knows for goal 0.
@@ -53,6 +54,20 @@ pub fn follows() -> u8
 // As long as the moves are legal, a plan knows where it is.
 pub fn stays_on_plan() -> u8
     ensures { λ _. ⌜ Stays-on-plan ⌝ }
+{
+    0
+}
+
+// The finite test of a plan is true exactly if the plan holds together.
+pub fn plan_tested() -> u8
+    ensures { λ _. ⌜ Plan-tested ⌝ }
+{
+    0
+}
+
+// The finite test of a counterstrategy is true exactly if it holds together.
+pub fn counter_tested() -> u8
+    ensures { λ _. ⌜ Counter-tested ⌝ }
 {
     0
 }
