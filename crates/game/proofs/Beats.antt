@@ -17,10 +17,6 @@ use Rattle.game.proofs.Descent.{Later, here, next, and-then, from-on, by-rank,
 use Rattle.game.proofs.Cycle.{around}
 use Rattle.game.proofs.Leading.{at, row, led-state, allowed-there, toward-below, stays-known}
 
-still : (g : Game) (i s : ℕ) → kept g i s ≡ false → promise-after g i s ≡ i
-unfolding promise-after
-still g i s e = ap (λ b. pick b (next-around (turns (g .promises)) i) i) e
-
 turns-all : (n i : ℕ) → i < n → i < turns n
 turns-all zero i l = absurd (omega arith)
 turns-all (suc n) i l = l
@@ -41,25 +37,25 @@ module _ (g : Game) (c : Counterstrategy) (k : Controller) (s : ℕ) where
   avoid n = c .avoid (at g c k s n .state)
 
   turn : (n : ℕ) →
-    at g c k s (suc n) .toward
+      at g c k s (suc n) .toward
       ≡ pick (met n) (next-around (turns (g .promises)) (at g c k s n .toward)) (at g c k s n .toward)
   unfolding led promise-after
   turn n = refl
 
   module _ (descends : (n : ℕ) → Descends g c (at g c k s n .toward) (at g c k s n .state) (at g c k s (suc n) .state)) where
     meets : 0 < g .promises → Again met
-    unfolding led
+    unfolding led promise-after
     meets some =
         by-ranks layer rank (Later (λ m. met m ≡ true))
         (λ n lower.
-          ⊎-elim (λ falls. next (lower (suc n) (inl falls)))
-          (λ same.
-            ⊎-elim (here n)
-            (⊎-elim
-              (λ onward. next (lower (suc n) (inr (same .0, rw (still g _ _ (onward .0), rank) (onward .2)))))
-              (λ none. absurd (omega arith)))
-            (same .4))
-          (descends n))
+        ⊎-elim (λ falls. next (lower (suc n) (inl falls)))
+        (λ same.
+        ⊎-elim (here n)
+        (⊎-elim
+        (λ onward. next (lower (suc n) (inr (same .0, rw (onward .0, rank) (onward .2)))))
+        (λ none. absurd (omega arith)))
+        (same .4))
+        (descends n))
 
     -- where the layer is never less than at n, the goal kept away from at n stays so, and is never met
     module _ (n : ℕ) (lowest : (m : ℕ) → layer m < layer n → ⊥) where
@@ -67,15 +63,15 @@ module _ (g : Game) (c : Counterstrategy) (k : Controller) (s : ℕ) where
       same-goal =
           from-on (λ m. (layer m ≡ layer n) × (avoid m ≡ avoid n)) n (refl, refl)
           (λ m so-far.
-            ⊎-elim (λ falls. absurd (lowest (suc m) (omega arith))) (λ same. (same .0 ∙ so-far .0, same .1 ∙ so-far .1))
-            (descends m))
+          ⊎-elim (λ falls. absurd (lowest (suc m) (omega arith))) (λ same. (same .0 ∙ so-far .0, same .1 ∙ so-far .1))
+          (descends m))
 
       away : (m : ℕ) → n ≤ m → (avoid n < g .goals) × (g .goal (avoid n) (at g c k s m .state) ≡ false)
       away m l =
           let (same-layer, still-j) = same-goal m l in
           ⊎-elim (λ falls. absurd (lowest (suc m) (omega arith)))
           (λ same.
-            subst (λ j. (j < g .goals) × (g .goal j (at g c k s m .state) ≡ false)) still-j (same .2, same .3))
+          subst (λ j. (j < g .goals) × (g .goal j (at g c k s m .state) ≡ false)) still-j (same .2, same .3))
           (descends m)
 
     misses : NotNot ((j : ℕ) × (j < g .goals) × Finitely (λ n. g .goal j (at g c k s n .state)))
@@ -87,20 +83,20 @@ module _ (g : Game) (c : Counterstrategy) (k : Controller) (s : ℕ) where
     keeps i inside n =
         and-then
         (around (turns (g .promises)) (λ m. at g c k s m .toward) met turn (toward-below g c k s) (meets (omega arith)) i
-          (turns-all (g .promises) i inside) n)
+        (turns-all (g .promises) i inside) n)
         (λ m h. here m (subst (λ j. g .promise j (at g c k s m .state) ≡ true) (h .0) (and-parts _ _ (h .1) .1)))
 
 -- each step of a play all of whose answers are allowed descends
 step : (g : Game) (c : Counterstrategy) (k : Controller) (s : ℕ) → CounterHolds g c → c .known s ≡ true →
-  ((n : ℕ) → Answered g k (row g c k s) s n) → (n : ℕ) →
-  Descends g c (at g c k s n .toward) (at g c k s n .state) (at g c k s (suc n) .state)
+    ((n : ℕ) → Answered g k (row g c k s) s n) → (n : ℕ) →
+    Descends g c (at g c k s n .toward) (at g c k s n .state) (at g c k s (suc n) .state)
 unfolding led lead
 step g c k s holds known answered n =
     holds .descends _ _ _ (toward-below g c k s n) (stays-known g c k s holds known n (answered n))
     (allowed-there g c k s n (answered (suc n) n (omega arith)))
 
 legal : (g : Game) (c : Counterstrategy) (k : Controller) (s : ℕ) → CounterHolds g c → c .known s ≡ true →
-  (n : ℕ) → Answered g k (row g c k s) s n → g .moves (state-at g k (row g c k s) s n) (row g c k s n) ≡ true
+    (n : ℕ) → Answered g k (row g c k s) s n → g .moves (state-at g k (row g c k s) s n) (row g c k s n) ≡ true
 unfolding lead
 legal g c k s holds known n answered =
     rw (led-state g c k s n) (holds .moves _ _ (toward-below g c k s n) (stays-known g c k s holds known n answered))
@@ -112,10 +108,11 @@ counter-wins g c k s holds known =
       row = row g c k s;
       legal = legal g c k s holds known;
       keeps =
-        λ answered.
+          λ answered.
           subst (λ (ss : ℕ → ℕ). (i : ℕ) → i < g .promises → Again (λ n. g .promise i (ss n))) same
           (keeps g c k s (step g c k s holds known answered));
       misses =
-        λ answered.
+          λ answered.
           subst (λ (ss : ℕ → ℕ). NotNot ((j : ℕ) × (j < g .goals) × Finitely (λ n. g .goal j (ss n)))) same
-          (misses g c k s (step g c k s holds known answered)) }
+          (misses g c k s (step g c k s holds known answered));
+    }

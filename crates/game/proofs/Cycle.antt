@@ -24,10 +24,13 @@ next-below count j l =
     ⊎-elim (λ h. omega (arith, next-inside count j h)) (λ h. omega (arith, next-last count j (omega arith)))
     (cases-lt (suc j) count)
 
-module _ (count : ℕ) (toward : ℕ → ℕ) (met : ℕ → Bool)
-  (turn : (n : ℕ) → toward (suc n) ≡ pick (met n) (next-around count (toward n)) (toward n))
-  (below : (n : ℕ) → toward n < count) (meets : Again met) where
+pub turn-below : (count j : ℕ) (b : Bool) → j < count → pick b (next-around count j) j < count
+turn-below count j true l = next-below count j l
+turn-below count j false l = l
 
+module _ (count : ℕ) (toward : ℕ → ℕ) (met : ℕ → Bool)
+    (turn : (n : ℕ) → toward (suc n) ≡ pick (met n) (next-around count (toward n)) (toward n))
+    (below : (n : ℕ) → toward n < count) (meets : Again met) where
   turn-if : (n : ℕ) (b : Bool) → met n ≡ b → toward (suc n) ≡ pick b (next-around count (toward n)) (toward n)
   turn-if n b e = turn n ∙ ap (λ c. pick c (next-around count (toward n)) (toward n)) e
 
@@ -40,11 +43,11 @@ module _ (count : ℕ) (toward : ℕ → ℕ) (met : ℕ → Bool)
   until t at-t =
       by-rank (λ n. t - n) (λ n. n ≤ t → Later (Met (toward n)) n)
       (λ n later l.
-        ⊎-elim (λ e. here n (refl, e))
-        (λ e.
-          let before = ahead met n t l e at-t in
-          next (subst (λ j. Later (Met j) (suc n)) (turn-if n false e) (later (suc n) (omega arith) before)))
-        (cases-bool (met n)))
+      ⊎-elim (λ e. here n (refl, e))
+      (λ e.
+      let before = ahead met n t l e at-t in
+      next (subst (λ j. Later (Met j) (suc n)) (turn-if n false e) (later (suc n) (omega arith) before)))
+      (cases-bool (met n)))
 
   first : (n : ℕ) → Later (Met (toward n)) n
   first n = let (t, l, e) = meets n in until t e n l
@@ -53,28 +56,28 @@ module _ (count : ℕ) (toward : ℕ → ℕ) (met : ℕ → Bool)
   forward j inside =
       by-rank (λ n. j - toward n) (λ n. toward n ≤ j → Later (λ m. toward m ≡ j) n)
       (λ n later l.
-        ⊎-elim
-        (λ h.
-          and-then (first n)
-          (λ m at-m.
-            let on : toward (suc m) ≡ suc (toward m) =
-              turn-if m true (at-m .1) ∙ next-inside count (toward m) (omega arith)
-            in
-            next (later (suc m) (omega arith) (omega arith))))
-        (λ h. here n (omega arith))
-        (cases-lt (toward n) j))
+      ⊎-elim
+      (λ h.
+      and-then (first n)
+      (λ m at-m.
+      let on : toward (suc m) ≡ suc (toward m) =
+      turn-if m true (at-m .1) ∙ next-inside count (toward m) (omega arith)
+      in
+      next (later (suc m) (omega arith) (omega arith))))
+      (λ h. here n (omega arith))
+      (cases-lt (toward n) j))
 
   back : (n : ℕ) → Later (λ m. toward m ≡ 0) n
   back n =
       and-then (forward (pred count) (omega (arith, below n)) n (omega (arith, below n)))
       (λ a last.
-        and-then (first a)
-        (λ m at-m.
-          next (here (suc m) (turn-if m true (at-m .1) ∙ next-last count (toward m) (omega (arith, below m))))))
+      and-then (first a)
+      (λ m at-m.
+      next (here (suc m) (turn-if m true (at-m .1) ∙ next-last count (toward m) (omega (arith, below m))))))
 
   -- forward to the last, on to 0, forward to j, and there until it is met
   pub around : (j : ℕ) → j < count → (n : ℕ) → Later (Met j) n
   around j inside n =
       and-then (back n)
       (λ a zeroth.
-        and-then (forward j inside a (omega arith)) (λ m there. subst (λ i. Later (Met i) m) there (first m)))
+      and-then (forward j inside a (omega arith)) (λ m there. subst (λ i. Later (Met i) m) there (first m)))

@@ -46,10 +46,10 @@ abbrev pub Less : (first second : ℕ → ℕ) → ℕ → ℕ → Type 0
 Less first second m n = (first m < first n) ⊎ ((first m ≡ first n) × (second m < second n))
 
 pub by-ranks : (first second : ℕ → ℕ) (P : ℕ → Type 0) →
-  ((n : ℕ) → ((m : ℕ) → Less first second m n → P m) → P n) → (n : ℕ) → P n
+    ((n : ℕ) → ((m : ℕ) → Less first second m n → P m) → P n) → (n : ℕ) → P n
 by-ranks first second P step =
     by-rank first P
     (λ n outer.
-      by-rank second (λ m. first m ≡ first n → P m)
-      (λ m inner same. step m (λ t. ⊎-elim (λ l. outer t (omega arith)) (λ h. inner t (h .1) (h .0 ∙ same))))
-      n refl)
+    by-rank second (λ m. first m ≡ first n → P m)
+    (λ m inner same. step m (λ t. ⊎-elim (λ l. outer t (omega arith)) (λ h. inner t (h .1) (h .0 ∙ same))))
+    n refl)

@@ -7,20 +7,15 @@ use mathlib.Core.Bool.{Bool, true, false}
 use mathlib.Core.List.{List, _∷_}
 use Prim.Native.Nat.{ℕ, zero, suc, _<_}
 use native.Mathlib.Omega.{arith}
-use Rattle.game.specs.Game.{Game, pick, next-around, goal-after}
+use Rattle.game.specs.Game.{Game, goal-after}
 use Rattle.game.specs.Plan.{Plan, PlanHolds}
 use Rattle.game.specs.Play.{now-after, follow, past, state-at}
 use Rattle.game.specs.Theorems.{On-plan, Steps-on-plan, Follows, Stays-on-plan}
-use Rattle.game.proofs.Cycle.{next-below}
-
-goal-below : (g : Game) (j s : ℕ) → j < g .goals → goal-after g j s < g .goals
-unfolding goal-after
-goal-below g j s l =
-    elim (g .goal j s) as (λ b. pick b (next-around (g .goals) j) j < g .goals) [ true ↦ next-below (g .goals) j l | false ↦ l ]
+use Rattle.game.proofs.Cycle.{turn-below}
 
 pub on-plan-step : Steps-on-plan
-unfolding now-after
-on-plan-step g p s e es holds (below, known) legal = (goal-below g _ _ below, holds .goes-on _ _ e below known legal)
+unfolding now-after goal-after
+on-plan-step g p s e es holds (below, known) legal = (turn-below (g .goals) _ _ below, holds .goes-on _ _ e below known legal)
 
 pub follows : Follows
 unfolding state-at past now-after follow

@@ -8,20 +8,14 @@ use mathlib.Core.Bool.{Bool, true, false}
 use mathlib.Core.List.{List, [], _∷_}
 use Prim.Native.Nat.{ℕ, zero, suc, _<_}
 use native.Mathlib.Omega.{arith}
-use Rattle.game.specs.Game.{Game, pick, next-around}
-use Rattle.game.specs.Counterstrategy.{Counterstrategy, CounterHolds, turns, kept, promise-after}
+use Rattle.game.specs.Game.{Game}
+use Rattle.game.specs.Counterstrategy.{Counterstrategy, CounterHolds, turns, promise-after}
 use Rattle.game.specs.Play.{Controller, Answered, Led, led, lead, past, state-at}
-use Rattle.game.proofs.Cycle.{next-below}
+use Rattle.game.proofs.Cycle.{turn-below}
 
 turns-some : (n : ℕ) → 0 < turns n
 turns-some zero = omega arith
 turns-some (suc n) = omega arith
-
-promise-below : (g : Game) (i s : ℕ) → i < turns (g .promises) → promise-after g i s < turns (g .promises)
-unfolding promise-after
-promise-below g i s l =
-    elim (kept g i s) as (λ b. pick b (next-around (turns (g .promises)) i) i < turns (g .promises))
-    [ true ↦ next-below (turns (g .promises)) i l | false ↦ l ]
 
 module _ (g : Game) (c : Counterstrategy) (k : Controller) (s : ℕ) where
   abbrev pub at : ℕ → Led
@@ -41,13 +35,13 @@ module _ (g : Game) (c : Counterstrategy) (k : Controller) (s : ℕ) where
   led-state (suc n) = cc (led-state n, moved-so-far n)
 
   pub allowed-there : (n : ℕ) → g .allowed (state-at g k row s n) (row n) (k (row n ∷ past row n)) ≡ true →
-    g .allowed (at n .state) (row n) (k (row n ∷ at n .moved)) ≡ true
+      g .allowed (at n .state) (row n) (k (row n ∷ at n .moved)) ≡ true
   allowed-there n h = rw (led-state n, moved-so-far n) at h
 
   pub toward-below : (n : ℕ) → at n .toward < turns (g .promises)
-  unfolding led
+  unfolding led promise-after
   toward-below zero = turns-some (g .promises)
-  toward-below (suc n) = promise-below g _ _ (toward-below n)
+  toward-below (suc n) = turn-below (turns (g .promises)) _ _ (toward-below n)
 
   pub stays-known : CounterHolds g c → c .known s ≡ true → (n : ℕ) → Answered g k row s n → c .known (at n .state) ≡ true
   unfolding led lead

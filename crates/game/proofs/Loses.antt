@@ -25,8 +25,8 @@ beaten-loses g k s b w =
     let all = answered g k s b w in
     b .misses all
     (λ (j, inside, (n, never)).
-      w .visits (b .row) (record { moves = λ m. b .legal m (all m); keeps = b .keeps all }) j inside n
-      (λ (m, l, visited). both-ways _ (never m l) visited))
+    w .visits (b .row) (record { moves = λ m. b .legal m (all m); keeps = b .keeps all }) j inside n
+    (λ (m, l, visited). both-ways _ (never m l) visited))
 
 nearly : (g : Game) (k : Controller) (s : ℕ) → Winning g k s → Nearly-winning g k s
 nearly g k s w = record { answers = w .answers; visits = λ es fair j inside n none. none (w .visits es fair j inside n) }
@@ -40,6 +40,7 @@ never-both g p c s some plan counter known-p known-c =
     known-loses g c (follow g p s) s counter known-c (plan-wins g p s some plan known-p)
 
 pub exactly : Exactly
-exactly g p c s some plan counter either =
-    (λ known. (follow g p s, plan-wins g p s some plan known),
-    λ (k, w). ⊎-elim (λ known. known) (λ known. absurd (known-loses g c k s counter known w)) either)
+exactly g p c s some plan counter either = (
+  λ known. (follow g p s, plan-wins g p s some plan known),
+  λ (k, w). ⊎-elim (λ known. known) (λ known. absurd (known-loses g c k s counter known w)) either,
+)

@@ -16,7 +16,7 @@ use Rattle.game.specs.Counterstrategy.{Counterstrategy, CounterHolds, Descends
 use Rattle.game.specs.Finite.{Sizes, Within, all, implies, plan-step, plan-row, plan-state, plan-test, falls, counter-step, counter-row, counter-state, counter-test, Plan-tested, Counter-tested}
 
 pub decides-all : (test : ℕ → Bool) (P : ℕ → Type 0) → ((k : ℕ) → Decides (test k) (P k)) → (n : ℕ) →
-  Decides (all n test) ((k : ℕ) → k < n → P k)
+    Decides (all n test) ((k : ℕ) → k < n → P k)
 decides-all test P each = decides-below-and test P (λ n. all n test) each refl (λ _. refl)
 
 pub decides-implies : {Q : Type 0} (x y : Bool) → Decides y Q → Decides (implies x y) (x ≡ true → Q)
@@ -28,7 +28,7 @@ module _ (g : Game) (p : Plan) where
   PlanStep j s e =
       let t : ℕ = g .after s e (p .answer j s e) in
       (g .allowed s e (p .answer j s e) ≡ true) × (p .known (goal-after g j s) t ≡ true)
-        × (g .goal j s ≡ false → Progress g p j s t)
+      × (g .goal j s ≡ false → Progress g p j s t)
 
   abbrev pub PlanRow : Sizes → ℕ → ℕ → Type 0
   PlanRow z j s = p .known j s ≡ true → (e : ℕ) → e < z .moves → g .moves s e ≡ true → PlanStep j s e
@@ -45,18 +45,19 @@ pub plan-tested : Plan-tested
 plan-tested z g p within =
     decides-like (plan-test z g p)
     (λ rows.
-      let fine : (j s e : ℕ) → j < g .goals → p .known j s ≡ true → g .moves s e ≡ true → PlanStep g p j s e =
-        λ j s e inside known legal. rows s (within .states s e legal) j inside known e (within .moves s e legal) legal
-      in
-      record {
-        answers = λ j s e inside known legal. fine j s e inside known legal .0;
-        goes-on = λ j s e inside known legal. fine j s e inside known legal .1;
-        progress = λ j s e inside known legal. fine j s e inside known legal .2 })
+    let fine : (j s e : ℕ) → j < g .goals → p .known j s ≡ true → g .moves s e ≡ true → PlanStep g p j s e =
+    λ j s e inside known legal. rows s (within .states s e legal) j inside known e (within .moves s e legal) legal
+    in
+    record {
+      answers = λ j s e inside known legal. fine j s e inside known legal .0;
+      goes-on = λ j s e inside known legal. fine j s e inside known legal .1;
+      progress = λ j s e inside known legal. fine j s e inside known legal .2;
+    })
     (λ holds s _ j inside known e _ legal.
-      (holds .answers j s e inside known legal, holds .goes-on j s e inside known legal, holds .progress j s e inside known legal))
+    (holds .answers j s e inside known legal, holds .goes-on j s e inside known legal, holds .progress j s e inside known legal))
     (decides-all (plan-state z g p) (λ s. (j : ℕ) → j < g .goals → PlanRow g p z j s)
-      (λ s. decides-all (λ j. plan-row z g p j s) (λ j. PlanRow g p z j s) (λ j. decides-plan-row g p z j s) (g .goals))
-      (z .states))
+    (λ s. decides-all (λ j. plan-row z g p j s) (λ j. PlanRow g p z j s) (λ j. decides-plan-row g p z j s) (g .goals))
+    (z .states))
 
 module _ (g : Game) (c : Counterstrategy) where
   abbrev pub CounterStep : ℕ → ℕ → ℕ → Type 0
@@ -80,23 +81,25 @@ module _ (g : Game) (c : Counterstrategy) where
   decides-counter-row z i s =
       decides-implies _ _
       (decides-and _ _ (λ e. e, λ e. e)
-        (decides-all _ (λ a. g .allowed s (c .move i s) a ≡ true → CounterStep i s a)
-          (λ a. decides-implies _ _ (decides-counter-step i s a)) (z .answers)))
+      (decides-all _ (λ a. g .allowed s (c .move i s) a ≡ true → CounterStep i s a)
+      (λ a. decides-implies _ _ (decides-counter-step i s a)) (z .answers)))
 
 pub counter-tested : Counter-tested
 counter-tested z g c within known-within =
     decides-like (counter-test z g c)
     (λ rows.
-      let fine : (i s a : ℕ) → i < turns (g .promises) → c .known s ≡ true → g .allowed s (c .move i s) a ≡ true → CounterStep g c i s a =
-        λ i s a inside known allowed. rows s (known-within s known) i inside known .1 a (within .answers s _ a allowed) allowed
-      in
-      record {
-        moves = λ i s inside known. rows s (known-within s known) i inside known .0;
-        goes-on = λ i s a inside known allowed. fine i s a inside known allowed .0;
-        descends = λ i s a inside known allowed. fine i s a inside known allowed .1 })
-    (λ holds s _ i inside known.
-      (holds .moves i s inside known,
-      λ a _ allowed. (holds .goes-on i s a inside known allowed, holds .descends i s a inside known allowed)))
+    let fine : (i s a : ℕ) → i < turns (g .promises) → c .known s ≡ true → g .allowed s (c .move i s) a ≡ true → CounterStep g c i s a =
+    λ i s a inside known allowed. rows s (known-within s known) i inside known .1 a (within .answers s _ a allowed) allowed
+    in
+    record {
+      moves = λ i s inside known. rows s (known-within s known) i inside known .0;
+      goes-on = λ i s a inside known allowed. fine i s a inside known allowed .0;
+      descends = λ i s a inside known allowed. fine i s a inside known allowed .1;
+    })
+    (λ holds s _ i inside known. (
+      holds .moves i s inside known,
+      λ a _ allowed. (holds .goes-on i s a inside known allowed, holds .descends i s a inside known allowed),
+    ))
     (decides-all (counter-state z g c) (λ s. (i : ℕ) → i < turns (g .promises) → CounterRow g c z i s)
-      (λ s. decides-all (λ i. counter-row z g c i s) (λ i. CounterRow g c z i s) (λ i. decides-counter-row g c z i s) (turns (g .promises)))
-      (z .states))
+    (λ s. decides-all (λ i. counter-row z g c i s) (λ i. CounterRow g c z i s) (λ i. decides-counter-row g c z i s) (turns (g .promises)))
+    (z .states))

@@ -17,8 +17,7 @@ module _ (promises : ℕ) (promise : ℕ → ℕ → Bool) (rank waits : ℕ →
       (rank (suc n) ≡ rank n) × (waits (suc n) ≡ waits n) × (waits n < promises) × (promise (waits n) n ≡ false)
 
   module _ (keeps : (i : ℕ) → i < promises → Again (promise i)) (met : ℕ → Bool)
-    (step : (n : ℕ) → met n ≡ false → (rank (suc n) < rank n) ⊎ Waits n) where
-
+      (step : (n : ℕ) → met n ≡ false → (rank (suc n) < rank n) ⊎ Waits n) where
     abbrev Meets : ℕ → Type 0
     Meets = Later (λ m. met m ≡ true)
 
@@ -28,18 +27,18 @@ module _ (promises : ℕ) (promise : ℕ → ℕ → Bool) (rank waits : ℕ →
 
     -- as long as one waits for i, which holds at t, t lies ahead
     wait : (n : ℕ) → ((m : ℕ) → rank m < rank n → Meets m) → (i t : ℕ) → promise i t ≡ true →
-      (m : ℕ) → m ≤ t → rank m ≡ rank n → waits m ≡ i → Meets m
+        (m : ℕ) → m ≤ t → rank m ≡ rank n → waits m ≡ i → Meets m
     wait n lower i t at-t =
         by-rank (λ m. t - m) (λ m. m ≤ t → rank m ≡ rank n → waits m ≡ i → Meets m)
         (λ m later l same for-i.
-          by-step m (λ falls. lower (suc m) (omega arith))
-          (λ w.
-            let before = ahead (promise i) m t l (subst (λ k. promise k m ≡ false) for-i (w .3)) at-t in
-            next (later (suc m) (omega arith) before (w .0 ∙ same) (w .1 ∙ for-i))))
+        by-step m (λ falls. lower (suc m) (omega arith))
+        (λ w.
+        let before = ahead (promise i) m t l (subst (λ k. promise k m ≡ false) for-i (w .3)) at-t in
+        next (later (suc m) (omega arith) before (w .0 ∙ same) (w .1 ∙ for-i))))
 
     pub meets : Again met
     meets =
         by-rank rank Meets
         (λ n lower.
-          by-step n (lower (suc n))
-          (λ w. let (t, l, at-t) = keeps (waits n) (w .2) n in wait n lower (waits n) t at-t n l refl refl))
+        by-step n (lower (suc n))
+        (λ w. let (t, l, at-t) = keeps (waits n) (w .2) n in wait n lower (waits n) t at-t n l refl refl))

@@ -16,10 +16,6 @@ use Rattle.game.proofs.Cycle.{around}
 use Rattle.game.proofs.Waiting.{Waits, meets}
 use Rattle.game.proofs.Following.{follows, stays-on-plan}
 
-still : (g : Game) (j s : ℕ) → g .goal j s ≡ false → goal-after g j s ≡ j
-unfolding goal-after
-still g j s e = ap (λ b. pick b (next-around (g .goals) j) j) e
-
 -- the play under the plan p from s, with the moves es; at each time:
 module _ (g : Game) (p : Plan) (s : ℕ) (es : ℕ → ℕ) where
   -- where it is
@@ -45,21 +41,21 @@ module _ (g : Game) (p : Plan) (s : ℕ) (es : ℕ → ℕ) where
 
   -- where the goal is not met, it is still gone for, so that the plan's progress is that of the play
   step : PlanHolds g p → (n : ℕ) → On-plan g p (at n) → g .moves (at n .state) (es n) ≡ true → met n ≡ false →
-    (rank (suc n) < rank n) ⊎ Waits (g .promises) promise rank waits n
-  unfolding now-after past
-  step holds n (below, known) legal unmet = rw (still g _ _ unmet, rank, waits) (holds .progress _ _ (es n) below known legal unmet)
+      (rank (suc n) < rank n) ⊎ Waits (g .promises) promise rank waits n
+  unfolding now-after past goal-after
+  step holds n (below, known) legal unmet = rw (unmet, rank, waits) (holds .progress _ _ (es n) below known legal unmet)
 
   visits : PlanHolds g p → ((n : ℕ) → On-plan g p (at n)) → Fair g es (λ n. at n .state) →
-    (j : ℕ) → j < g .goals → Again (λ n. g .goal j (at n .state))
+      (j : ℕ) → j < g .goals → Again (λ n. g .goal j (at n .state))
   visits holds on fair j inside n =
       and-then
       (around (g .goals) (λ m. at m .mode) met turn (λ m. on m .0)
-        (meets (g .promises) promise rank waits (fair .keeps) met (λ m. step holds m (on m) (fair .moves m))) j inside n)
+      (meets (g .promises) promise rank waits (fair .keeps) met (λ m. step holds m (on m) (fair .moves m))) j inside n)
       (λ m h. here m (subst (λ i. g .goal i (at m .state) ≡ true) (h .0) (h .1)))
 
 answers : (g : Game) (p : Plan) (s : ℕ) (es : ℕ → ℕ) → PlanHolds g p → (n : ℕ) → On-plan g p (at g p s es n) →
-  Legal g (follow g p s) es s n →
-  g .allowed (state-at g (follow g p s) es s n) (es n) (follow g p s (es n ∷ past es n)) ≡ true
+    Legal g (follow g p s) es s n →
+    g .allowed (state-at g (follow g p s) es s n) (es n) (follow g p s (es n ∷ past es n)) ≡ true
 unfolding follow
 answers g p s es holds n (below, known) legal =
     rw (follows g p s es n) (holds .answers _ _ (es n) below known (rw (follows g p s es n) at (legal n (le-refl n))))
@@ -70,7 +66,8 @@ plan-wins g p s some holds known =
     record {
       answers = λ es n legal. answers g p s es holds n (on es n (λ m l. legal m (omega arith))) legal;
       visits =
-        λ es fair.
+          λ es fair.
           let same = fun-ext (follows g p s es) in
           subst (λ (ss : ℕ → ℕ). (j : ℕ) → j < g .goals → Again (λ n. g .goal j (ss n))) (sym same)
-          (visits g p s es holds (λ n. on es n (λ m l. fair .moves m)) (subst (Fair g es) same fair)) }
+          (visits g p s es holds (λ n. on es n (λ m l. fair .moves m)) (subst (Fair g es) same fair));
+    }

@@ -46,7 +46,7 @@ abbrev pub progresses : Game → Plan → ℕ → ℕ → ℕ → Bool
 progresses g p j s t =
     ltb (p .rank j t) (p .rank j s)
     || eqb (p .rank j t) (p .rank j s) && eqb (p .waits j t) (p .waits j s)
-      && ltb (p .waits j s) (g .promises) && not (g .promise (p .waits j s) s)
+    && ltb (p .waits j s) (g .promises) && not (g .promise (p .waits j s) s)
 
 -- the answer to the move e is allowed and leads on to t; while the goal does not hold there is progress
 abbrev pub plan-step : Game → Plan → ℕ → ℕ → ℕ → Bool
@@ -78,7 +78,7 @@ abbrev pub falls : Game → Counterstrategy → ℕ → ℕ → ℕ → Bool
 falls g c i s t =
     ltb (c .layer t) (c .layer s)
     || eqb (c .layer t) (c .layer s) && eqb (c .avoid t) (c .avoid s) && ltb (c .avoid s) (g .goals)
-      && not (g .goal (c .avoid s) s) && goes-onward g c i s t
+    && not (g .goal (c .avoid s) s) && goes-onward g c i s t
 
 -- the answer a leads on to a known state, and descends
 abbrev pub counter-step : Game → Counterstrategy → ℕ → ℕ → ℕ → Bool
@@ -91,7 +91,7 @@ abbrev pub counter-row : Sizes → Game → Counterstrategy → ℕ → ℕ → 
 counter-row z g c i s =
     implies (c .known s)
     (g .moves s (c .move i s)
-      && all (z .answers) (λ a. implies (g .allowed s (c .move i s) a) (counter-step g c i s a)))
+    && all (z .answers) (λ a. implies (g .allowed s (c .move i s) a) (counter-step g c i s a)))
 
 -- the rows of all promises gone for in turn, for the state s
 abbrev pub counter-state : Sizes → Game → Counterstrategy → ℕ → Bool
