@@ -1,118 +1,104 @@
--- A counterstrategy that holds together beats every controller: layers and ranks fall until the promise gone for is kept,
--- and the layer can't fall for ever, so that in the end one goal is kept away from.
+-- A counterstrategy that holds together beats every controller: layer and rank fall until the promise gone for is kept; and
+-- the layer can't fall for ever, so that in the end one goal is kept away from.
 --   counter-wins  the theorem
-use mathlib.Core.Logic.{_⊎_, inl, inr, ⊎-elim}
-use mathlib.Core.Path.{_≡_, refl, sym, ap, subst, _∙_, fun-ext}
+use mathlib.Core.Logic.{inl, inr}
+use mathlib.Core.Path.{_≡_, refl, sym, subst, _∙_, fun-ext}
 use mathlib.Core.Bool.{Bool, true, false}
 use Prim.Native.Nat.{ℕ, zero, suc, _≤_, _<_}
 use native.Mathlib.Nat.{le-refl}
 use native.Mathlib.Omega.{arith}
-use lib.Dec.{ltb}
 use Rattle.std.proofs.shelf.Tests.{and-parts}
-use Rattle.game.specs.Game.{Game, pick, next-around}
-use Rattle.game.specs.Counterstrategy.{Counterstrategy, CounterHolds, Descends, turns, kept, promise-after}
-use Rattle.game.specs.Play.{Again, Finitely, NotNot, Controller, Answered, led, lead, state-at}
+use Rattle.game.specs.Game.{Game}
+use Rattle.game.specs.Counterstrategy.{Counterstrategy, Descends, turns, kept, promise-after}
+use Rattle.game.specs.Play.{Again, Finitely, NotNot, led, lead}
 use Rattle.game.specs.Theorems.{Counter-wins}
-use Rattle.game.proofs.Descent.{Later, here, next, and-then, from-on, by-rank, by-ranks}
-use Rattle.game.proofs.Cycle.{around}
-use Rattle.game.proofs.Leading.{at, row, led-state, allowed-there, toward-below, stays-known}
+use Rattle.game.proofs.Descent.{Later, here, next, and-then, from-on, Less, by-rank, by-ranks}
+use Rattle.game.proofs.Cycle.{turn-still, around}
+use Rattle.game.proofs.Leading.{toward-below, led-state, led-legal, led-descends}
 
 turns-all : (n i : ℕ) → i < n → i < turns n
 turns-all zero i l = absurd (omega arith)
 turns-all (suc n) i l = l
 
--- the play under the counterstrategy c from s against the controller k, all of whose answers are allowed; at each time:
-module _ (g : Game) (c : Counterstrategy) (k : Controller) (s : ℕ) where
-  -- whether the promise gone for is kept, its rank, the layer, and the goal kept away from
+-- a play without end through `state`, in which promise `toward` is gone for at each time and every step descends
+module _ (g : Game) (c : Counterstrategy) (toward state : ℕ → ℕ) (below : (n : ℕ) → toward n < turns (g .promises))
+    (turn : (n : ℕ) → toward (suc n) ≡ promise-after g (toward n) (state n))
+    (descends : (n : ℕ) → Descends g c (toward n) (state n) (state (suc n))) where
+  -- at each time: whether the promise gone for is kept, its rank, the layer, and the goal kept away from
   abbrev met : ℕ → Bool
-  met n = kept g (at g c k s n .toward) (at g c k s n .state)
+  met n = kept g (toward n) (state n)
 
   abbrev rank : ℕ → ℕ
-  rank n = c .rank (at g c k s n .toward) (at g c k s n .state)
+  rank n = c .rank (toward n) (state n)
 
   abbrev layer : ℕ → ℕ
-  layer n = c .layer (at g c k s n .state)
+  layer n = c .layer (state n)
 
   abbrev avoid : ℕ → ℕ
-  avoid n = c .avoid (at g c k s n .state)
+  avoid n = c .avoid (state n)
 
-  turn : (n : ℕ) →
-      at g c k s (suc n) .toward
-      ≡ pick (met n) (next-around (turns (g .promises)) (at g c k s n .toward)) (at g c k s n .toward)
-  unfolding led promise-after
-  turn n = refl
+  abbrev Meets : ℕ → Type 0
+  Meets = Later (λ m. met m ≡ true)
 
-  module _ (descends : (n : ℕ) → Descends g c (at g c k s n .toward) (at g c k s n .state) (at g c k s (suc n) .state)) where
-    meets : 0 < g .promises → Again met
-    unfolding led promise-after
-    meets some =
-        by-ranks layer rank (Later (λ m. met m ≡ true))
-        (λ n lower.
-        ⊎-elim (λ falls. next (lower (suc n) (inl falls)))
-        (λ same.
-        ⊎-elim (here n)
-        (⊎-elim
-        (λ onward. next (lower (suc n) (inr (same .0, rw (onward .0, rank) (onward .2)))))
-        (λ none. absurd (omega arith)))
-        (same .4))
-        (descends n))
+  still : (n : ℕ) → met n ≡ false → toward (suc n) ≡ toward n
+  unfolding promise-after
+  still n = turn-still (turns (g .promises)) (toward n) (toward (suc n)) (met n) (turn n)
 
-    -- where the layer is never less than at n, the goal kept away from at n stays so, and is never met
-    module _ (n : ℕ) (lowest : (m : ℕ) → layer m < layer n → ⊥) where
-      same-goal : (m : ℕ) → n ≤ m → (layer m ≡ layer n) × (avoid m ≡ avoid n)
-      same-goal =
-          from-on (λ m. (layer m ≡ layer n) × (avoid m ≡ avoid n)) n (refl, refl)
-          (λ m so-far.
-          ⊎-elim (λ falls. absurd (lowest (suc m) (omega arith))) (λ same. (same .0 ∙ so-far .0, same .1 ∙ so-far .1))
-          (descends m))
+  meets : 0 < g .promises → Again met
+  meets some = by-ranks layer rank Meets (λ n lower. go n lower (descends n))
+    where
+      go : (n : ℕ) → ((m : ℕ) → Less layer rank m n → Meets m) → Descends g c (toward n) (state n) (state (suc n)) → Meets n
+      go n lower (inl falls) = next (lower (suc n) (inl falls))
+      go n lower (inr (same, _, _, _, inl is-kept)) = here n is-kept
+      go n lower (inr (same, _, _, _, inr (inl (unkept, _, falls)))) =
+          next (lower (suc n) (inr (same, subst (λ i. c .rank i (state (suc n)) < rank n) (sym (still n unkept)) falls)))
+      go n lower (inr (same, _, _, _, inr (inr (none, _)))) = absurd (omega arith)
 
-      away : (m : ℕ) → n ≤ m → (avoid n < g .goals) × (g .goal (avoid n) (at g c k s m .state) ≡ false)
-      away m l =
-          let (same-layer, still-j) = same-goal m l in
-          ⊎-elim (λ falls. absurd (lowest (suc m) (omega arith)))
-          (λ same.
-          subst (λ j. (j < g .goals) × (g .goal j (at g c k s m .state) ≡ false)) still-j (same .2, same .3))
-          (descends m)
+  pub keeps : (i : ℕ) → i < g .promises → Again (λ n. g .promise i (state n))
+  unfolding promise-after
+  keeps i inside n =
+      and-then
+      (around (turns (g .promises)) toward met turn below (meets (omega arith)) i (turns-all (g .promises) i inside) n)
+      (λ m (at-i, is-met). here m (subst (λ j. g .promise j (state m) ≡ true) at-i (and-parts _ _ is-met .1)))
 
-    misses : NotNot ((j : ℕ) × (j < g .goals) × Finitely (λ n. g .goal j (at g c k s n .state)))
-    misses none =
-        by-rank layer (λ n. ⊥)
-        (λ n lowest. none (avoid n, away n lowest n (le-refl n) .0, (n, λ m l. away n lowest m l .1))) 0
+  -- where the layer is never less than at n, the goal kept away from stays the same and is never met
+  module _ (n : ℕ) (lowest : (m : ℕ) → layer m < layer n → ⊥) where
+    level : (m : ℕ) → layer m ≡ layer n → Descends g c (toward m) (state m) (state (suc m)) →
+        (layer (suc m) ≡ layer n) × (avoid (suc m) ≡ avoid m) × (avoid m < g .goals) × (g .goal (avoid m) (state m) ≡ false)
+    level m same (inl falls) = absurd (lowest (suc m) (omega arith))
+    level m same (inr (stays, still-j, inside, away, _)) = (stays ∙ same, still-j, inside, away)
 
-    keeps : (i : ℕ) → i < g .promises → Again (λ n. g .promise i (at g c k s n .state))
-    keeps i inside n =
-        and-then
-        (around (turns (g .promises)) (λ m. at g c k s m .toward) met turn (toward-below g c k s) (meets (omega arith)) i
-        (turns-all (g .promises) i inside) n)
-        (λ m h. here m (subst (λ j. g .promise j (at g c k s m .state) ≡ true) (h .0) (and-parts _ _ (h .1) .1)))
+    same-goal : (m : ℕ) → n ≤ m → (layer m ≡ layer n) × (avoid m ≡ avoid n)
+    same-goal =
+        from-on (λ m. (layer m ≡ layer n) × (avoid m ≡ avoid n)) n (refl, refl)
+        (λ m (same, same-j). let l = level m same (descends m) in (l .0, l .1 ∙ same-j))
 
--- each step of a play all of whose answers are allowed descends
-step : (g : Game) (c : Counterstrategy) (k : Controller) (s : ℕ) → CounterHolds g c → c .known s ≡ true →
-    ((n : ℕ) → Answered g k (row g c k s) s n) → (n : ℕ) →
-    Descends g c (at g c k s n .toward) (at g c k s n .state) (at g c k s (suc n) .state)
-unfolding led lead
-step g c k s holds known answered n =
-    holds .descends _ _ _ (toward-below g c k s n) (stays-known g c k s holds known n (answered n))
-    (allowed-there g c k s n (answered (suc n) n (omega arith)))
+    away : (m : ℕ) → n ≤ m → (avoid n < g .goals) × (g .goal (avoid n) (state m) ≡ false)
+    away m later =
+        let (same, same-j) = same-goal m later in
+        let l = level m same (descends m) in
+        subst (λ j. (j < g .goals) × (g .goal j (state m) ≡ false)) same-j (l .2, l .3)
 
-legal : (g : Game) (c : Counterstrategy) (k : Controller) (s : ℕ) → CounterHolds g c → c .known s ≡ true →
-    (n : ℕ) → Answered g k (row g c k s) s n → g .moves (state-at g k (row g c k s) s n) (row g c k s n) ≡ true
-unfolding lead
-legal g c k s holds known n answered =
-    rw (led-state g c k s n) (holds .moves _ _ (toward-below g c k s n) (stays-known g c k s holds known n answered))
+  pub misses : NotNot ((j : ℕ) × (j < g .goals) × Finitely (λ n. g .goal j (state n)))
+  misses none =
+      by-rank layer (λ n. ⊥)
+      (λ n lowest. none (avoid n, away n lowest n (le-refl n) .0, (n, λ m l. away n lowest m l .1))) 0
 
 pub counter-wins : Counter-wins
+unfolding led
 counter-wins g c k s holds known =
+    let toward = λ (n : ℕ). led g c k s n .toward in
+    let state = λ (n : ℕ). led g c k s n .state in
     let same = sym (fun-ext (led-state g c k s)) in
     record {
-      row = row g c k s;
-      legal = legal g c k s holds known;
+      row = lead g c k s;
+      legal = led-legal g c k s holds known;
       keeps =
           λ answered.
           subst (λ (ss : ℕ → ℕ). (i : ℕ) → i < g .promises → Again (λ n. g .promise i (ss n))) same
-          (keeps g c k s (step g c k s holds known answered));
+          (keeps g c toward state (toward-below g c k s) (λ n. refl) (λ n. led-descends g c k s holds known n (answered (suc n))));
       misses =
           λ answered.
           subst (λ (ss : ℕ → ℕ). NotNot ((j : ℕ) × (j < g .goals) × Finitely (λ n. g .goal j (ss n)))) same
-          (misses g c k s (step g c k s holds known answered));
+          (misses g c toward state (toward-below g c k s) (λ n. refl) (λ n. led-descends g c k s holds known n (answered (suc n))));
     }

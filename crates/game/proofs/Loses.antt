@@ -1,11 +1,11 @@
 -- What is beaten does not win, and what follows of plans and counterstrategies together.
 --   beaten-loses, never-both, exactly  the theorems
-use mathlib.Core.Logic.{_⊎_, inl, inr, ⊎-elim}
-use mathlib.Core.Path.{_≡_, subst}
-use mathlib.Core.Bool.{Bool, true, false}
-use Prim.Native.Nat.{ℕ, zero, suc, _<_}
+use mathlib.Core.Logic.{⊎-elim}
+use mathlib.Core.Path.{_≡_}
+use mathlib.Core.Bool.{true}
+use Prim.Native.Nat.{ℕ, zero, suc}
 use native.Mathlib.Omega.{arith}
-use Rattle.std.proofs.shelf.Tests.{both-ways, cases-lt}
+use Rattle.std.proofs.shelf.Tests.{both-ways}
 use Rattle.game.specs.Game.{Game}
 use Rattle.game.specs.Counterstrategy.{Counterstrategy, CounterHolds}
 use Rattle.game.specs.Play.{Controller, Winning, Nearly-winning, Beaten, Answered, follow}

@@ -11,9 +11,9 @@ use Rattle.std.specs.Orderings.{Decides}
 use Rattle.std.proofs.shelf.Tests.{false≢true}
 use Rattle.std.proofs.shelf.Ways.{tells, decides-below-and, decides-and, decides-like}
 use Rattle.game.specs.Game.{Game, goal-after}
-use Rattle.game.specs.Plan.{Plan, PlanHolds, Progress}
-use Rattle.game.specs.Counterstrategy.{Counterstrategy, CounterHolds, Descends, turns}
-use Rattle.game.specs.Finite.{Sizes, Within, all, implies, plan-step, plan-row, plan-state, plan-test, falls, counter-step, counter-row, counter-state, counter-test, Plan-tested, Counter-tested}
+use Rattle.game.specs.Plan.{Plan, Progress}
+use Rattle.game.specs.Counterstrategy.{Counterstrategy, Descends, turns}
+use Rattle.game.specs.Finite.{Sizes, all, implies, plan-step, plan-row, plan-state, plan-test, falls, counter-step, counter-row, counter-state, counter-test, Plan-tested, Counter-tested}
 
 pub decides-all : (test : ℕ → Bool) (P : ℕ → Type 0) → ((k : ℕ) → Decides (test k) (P k)) → (n : ℕ) →
     Decides (all n test) ((k : ℕ) → k < n → P k)

@@ -7,12 +7,12 @@
 --   Follows, Stays-on-plan   a play under a plan goes where the plan reckons it to be, and stays on the plan
 use mathlib.Core.Logic.{_⊎_}
 use mathlib.Core.Path.{_≡_}
-use mathlib.Core.Bool.{Bool, true, false}
+use mathlib.Core.Bool.{true}
+use mathlib.Core.List.{List, _∷_}
 use Prim.Native.Nat.{ℕ, _<_}
 use Rattle.game.specs.Game.{Game}
 use Rattle.game.specs.Plan.{Plan, PlanHolds}
 use Rattle.game.specs.Counterstrategy.{Counterstrategy, CounterHolds}
-use mathlib.Core.List.{List, _∷_}
 use Rattle.game.specs.Play.{Controller, Winning, Nearly-winning, Beaten, Now, now-after, follow, past, state-at}
 
 -- A plan that holds together wins from each state that it knows for goal 0, against every environment.
