@@ -7,3 +7,4 @@ pub mod Leading
 pub mod Beats
 pub mod Loses
 pub mod Tested
+pub mod Sampled

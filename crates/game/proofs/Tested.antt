@@ -1,4 +1,5 @@
 -- The finite tests decide what they are to decide: each step by its parts, then rows, states and the whole.
+--   guarded-within                              a guarded game is within its sizes
 --   decides-all, decides-implies          of a test of each number below a bound; of a test asked under another
 --   PlanStep, PlanRow, CounterStep, CounterRow  what a step and a row say
 --   decides-plan-row, decides-counter-row       a row's test decides what the row says
@@ -8,12 +9,20 @@ use mathlib.Core.Bool.{Bool, true, false}
 use Prim.Native.Nat.{ℕ, _<_}
 use native.Mathlib.Omega.{arith}
 use Rattle.std.specs.Orderings.{Decides}
-use Rattle.std.proofs.shelf.Tests.{false≢true}
+use Rattle.std.proofs.shelf.Tests.{false≢true, and-parts, ltb-true}
 use Rattle.std.proofs.shelf.Ways.{tells, decides-below-and, decides-and, decides-like}
 use Rattle.game.specs.Game.{Game, goal-after}
 use Rattle.game.specs.Plan.{Plan, Progress}
 use Rattle.game.specs.Counterstrategy.{Counterstrategy, Descends, turns}
-use Rattle.game.specs.Finite.{Sizes, all, implies, plan-step, plan-row, plan-state, plan-test, falls, counter-step, counter-row, counter-state, counter-test, Plan-tested, Counter-tested}
+use Rattle.game.specs.Finite.{Sizes, guarded, Guarded-within, all, implies, plan-step, plan-row, plan-state, plan-test, falls, counter-step, counter-row, counter-state, counter-test, Plan-tested, Counter-tested}
+
+pub guarded-within : Guarded-within
+guarded-within z g =
+    record {
+      states = λ s e legal. ltb-true _ _ (and-parts _ _ (and-parts _ _ legal .0) .0);
+      moves = λ s e legal. ltb-true _ _ (and-parts _ _ (and-parts _ _ legal .0) .1);
+      answers = λ s e a allowed. ltb-true _ _ (and-parts _ _ allowed .0);
+    }
 
 pub decides-all : (test : ℕ → Bool) (P : ℕ → Type 0) → ((k : ℕ) → Decides (test k) (P k)) → (n : ℕ) →
     Decides (all n test) ((k : ℕ) → k < n → P k)

@@ -1,6 +1,7 @@
 -- Tests that decide whether a plan or a counterstrategy holds together, where states, moves and answers are bounded.
 -- Assumes nothing. They go row by row, as a checker's loops do, so that the first state with a faulty row can be named.
 --   Sizes, Within              how many states, moves and answers there are; a game has no others
+--   guarded, Guarded-within    a game without what is out of range; it is within the sizes
 --   implies, all               a test that is asked only under another; a test of each number below a bound
 --   progresses                 the test of Progress
 --   plan-step, plan-row        one move in a row of a plan; the row of a goal and a state
@@ -30,6 +31,23 @@ pub record Within (g : Game) (z : Sizes) : Type 0 where
   pub states : (s e : ℕ) → g .moves s e ≡ true → s < z .states
   pub moves : (s e : ℕ) → g .moves s e ≡ true → e < z .moves
   pub answers : (s e a : ℕ) → g .allowed s e a ≡ true → a < z .answers
+
+-- the game g, with no move and no answer out of range
+abbrev pub guarded : Sizes → Game → Game
+guarded z g =
+    record {
+      moves = λ s e. ltb s (z .states) && ltb e (z .moves) && g .moves s e;
+      allowed = λ s e a. ltb a (z .answers) && g .allowed s e a;
+      after = g .after;
+      promises = g .promises;
+      promise = g .promise;
+      goals = g .goals;
+      goal = g .goal;
+    }
+
+-- A guarded game is within its sizes.
+abbrev pub Guarded-within : Type 0
+Guarded-within = (z : Sizes) (g : Game) → Within (guarded z g) z
 
 -- the second test, asked only where the first is true
 abbrev pub implies : Bool → Bool → Bool

@@ -4,3 +4,4 @@ pub mod Counterstrategy
 pub mod Play
 pub mod Theorems
 pub mod Finite
+pub mod Samples

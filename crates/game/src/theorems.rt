@@ -1,5 +1,6 @@
 // The theorems of winning. Each function's contract is one theorem, so that the check asks for its proof; nothing is computed.
-ghost use Rattle.game.specs.Finite.{Counter-tested, Plan-tested};
+ghost use Rattle.game.specs.Finite.{Counter-tested, Guarded-within, Plan-tested};
+ghost use Rattle.game.specs.Samples.{Samples-hold};
 ghost use Rattle.game.specs.Theorems.{Beaten-loses, Counter-wins, Exactly, Follows, Never-both, Plan-wins, Stays-on-plan, Steps-on-plan};
 
 // A plan that holds together wins from each state that it knows for goal 0.
@@ -68,6 +69,20 @@ pub fn plan_tested() -> u8
 // The finite test of a counterstrategy is true exactly if it holds together.
 pub fn counter_tested() -> u8
     ensures { λ _. ⌜ Counter-tested ⌝ }
+{
+    0
+}
+
+// A game without what is out of range is within its sizes.
+pub fn guarded_within() -> u8
+    ensures { λ _. ⌜ Guarded-within ⌝ }
+{
+    0
+}
+
+// Three small games, one won and two lost: the plan and the counterstrategies hold together.
+pub fn samples_hold() -> u8
+    ensures { λ _. ⌜ Samples-hold ⌝ }
 {
     0
 }
