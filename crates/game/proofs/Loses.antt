@@ -1,4 +1,5 @@
 -- What is beaten does not win, and what follows of plans and counterstrategies together.
+--   known-loses                        no controller wins where a counterstrategy that holds together knows
 --   beaten-loses, never-both, exactly  the theorems
 use mathlib.Core.Logic.{⊎-elim}
 use mathlib.Core.Path.{_≡_}
@@ -31,8 +32,7 @@ beaten-loses g k s b w =
 nearly : (g : Game) (k : Controller) (s : ℕ) → Winning g k s → Nearly-winning g k s
 nearly g k s w = record { answers = w .answers; visits = λ es fair j inside n none. none (w .visits es fair j inside n) }
 
--- no controller wins where a counterstrategy knows
-known-loses : (g : Game) (c : Counterstrategy) (k : Controller) (s : ℕ) → CounterHolds g c → c .known s ≡ true → Winning g k s → ⊥
+pub known-loses : (g : Game) (c : Counterstrategy) (k : Controller) (s : ℕ) → CounterHolds g c → c .known s ≡ true → Winning g k s → ⊥
 known-loses g c k s holds known w = beaten-loses g k s (counter-wins g c k s holds known) (nearly g k s w)
 
 pub never-both : Never-both

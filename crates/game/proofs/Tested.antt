@@ -1,6 +1,6 @@
 -- The finite tests decide what they are to decide: each step by its parts, then rows, states and the whole.
 --   guarded-within                              a guarded game is within its sizes
---   decides-all, decides-implies          of a test of each number below a bound; of a test asked under another
+--   decides-all, decides-implies                of a test of each number below a bound; of a test asked under another
 --   PlanStep, PlanRow, CounterStep, CounterRow  what a step and a row say
 --   decides-plan-row, decides-counter-row       a row's test decides what the row says
 --   plan-tested, counter-tested                 the theorems
@@ -14,7 +14,7 @@ use Rattle.std.proofs.shelf.Ways.{tells, decides-below-and, decides-and, decide
 use Rattle.game.specs.Game.{Game, goal-after}
 use Rattle.game.specs.Plan.{Plan, Progress}
 use Rattle.game.specs.Counterstrategy.{Counterstrategy, Descends, turns}
-use Rattle.game.specs.Finite.{Sizes, guarded, Guarded-within, all, implies, plan-step, plan-row, plan-state, plan-test, falls, counter-step, counter-row, counter-state, counter-test, Plan-tested, Counter-tested}
+use Rattle.game.specs.Finite.{Sizes, Within, Guarded-within, all, implies, plan-step, plan-row, plan-test, falls, counter-step, counter-row, counter-test, Plan-tested, Counter-tested}
 
 pub guarded-within : Guarded-within
 guarded-within z g =
@@ -50,23 +50,37 @@ module _ (g : Game) (p : Plan) where
       decides-implies _ _
       (decides-all _ (λ e. g .moves s e ≡ true → PlanStep j s e) (λ e. decides-implies _ _ (decides-plan-step j s e)) (z .moves))
 
+  -- what all rows together say
+  abbrev PlanRows : Sizes → Type 0
+  PlanRows z = (s : ℕ) → s < z .states → (j : ℕ) → j < g .goals → PlanRow z j s
+
+  decides-plan-rows : (z : Sizes) → Decides (plan-test z g p) (PlanRows z)
+  decides-plan-rows z =
+      decides-all _ (λ s. (j : ℕ) → j < g .goals → PlanRow z j s)
+      (λ s. decides-all _ (λ j. PlanRow z j s) (λ j. decides-plan-row z j s) (g .goals)) (z .states)
+
+  -- a move that is legal is within the sizes, so that its step is among those tested
+  step-holds : (z : Sizes) → Within g z → PlanRows z →
+      (j s e : ℕ) → j < g .goals → p .known j s ≡ true → g .moves s e ≡ true → PlanStep j s e
+  step-holds z within rows j s e inside known legal =
+      rows s (within .states s e legal) j inside known e (within .moves s e legal) legal
+
 pub plan-tested : Plan-tested
 plan-tested z g p within =
     decides-like (plan-test z g p)
     (λ rows.
-    let fine : (j s e : ℕ) → j < g .goals → p .known j s ≡ true → g .moves s e ≡ true → PlanStep g p j s e =
-    λ j s e inside known legal. rows s (within .states s e legal) j inside known e (within .moves s e legal) legal
-    in
+    let fine = step-holds g p z within rows in
     record {
       answers = λ j s e inside known legal. fine j s e inside known legal .0;
       goes-on = λ j s e inside known legal. fine j s e inside known legal .1;
       progress = λ j s e inside known legal. fine j s e inside known legal .2;
     })
-    (λ holds s _ j inside known e _ legal.
-    (holds .answers j s e inside known legal, holds .goes-on j s e inside known legal, holds .progress j s e inside known legal))
-    (decides-all (plan-state z g p) (λ s. (j : ℕ) → j < g .goals → PlanRow g p z j s)
-    (λ s. decides-all (λ j. plan-row z g p j s) (λ j. PlanRow g p z j s) (λ j. decides-plan-row g p z j s) (g .goals))
-    (z .states))
+    (λ holds s _ j inside known e _ legal. (
+      holds .answers j s e inside known legal,
+      holds .goes-on j s e inside known legal,
+      holds .progress j s e inside known legal,
+    ))
+    (decides-plan-rows g p z)
 
 module _ (g : Game) (c : Counterstrategy) where
   abbrev pub CounterStep : ℕ → ℕ → ℕ → Type 0
@@ -93,22 +107,27 @@ module _ (g : Game) (c : Counterstrategy) where
       (decides-all _ (λ a. g .allowed s (c .move i s) a ≡ true → CounterStep i s a)
       (λ a. decides-implies _ _ (decides-counter-step i s a)) (z .answers)))
 
+  -- what all rows together say
+  abbrev CounterRows : Sizes → Type 0
+  CounterRows z = (s : ℕ) → s < z .states → (i : ℕ) → i < turns (g .promises) → CounterRow z i s
+
+  decides-counter-rows : (z : Sizes) → Decides (counter-test z g c) (CounterRows z)
+  decides-counter-rows z =
+      decides-all _ (λ s. (i : ℕ) → i < turns (g .promises) → CounterRow z i s)
+      (λ s. decides-all _ (λ i. CounterRow z i s) (λ i. decides-counter-row z i s) (turns (g .promises))) (z .states)
+
 pub counter-tested : Counter-tested
 counter-tested z g c within known-within =
     decides-like (counter-test z g c)
     (λ rows.
-    let fine : (i s a : ℕ) → i < turns (g .promises) → c .known s ≡ true → g .allowed s (c .move i s) a ≡ true → CounterStep g c i s a =
-    λ i s a inside known allowed. rows s (known-within s known) i inside known .1 a (within .answers s _ a allowed) allowed
-    in
+    let fine = λ (i s : ℕ) (inside : i < turns (g .promises)) (known : c .known s ≡ true). rows s (known-within s known) i inside known in
     record {
-      moves = λ i s inside known. rows s (known-within s known) i inside known .0;
-      goes-on = λ i s a inside known allowed. fine i s a inside known allowed .0;
-      descends = λ i s a inside known allowed. fine i s a inside known allowed .1;
+      moves = λ i s inside known. fine i s inside known .0;
+      goes-on = λ i s a inside known allowed. fine i s inside known .1 a (within .answers s _ a allowed) allowed .0;
+      descends = λ i s a inside known allowed. fine i s inside known .1 a (within .answers s _ a allowed) allowed .1;
     })
     (λ holds s _ i inside known. (
       holds .moves i s inside known,
       λ a _ allowed. (holds .goes-on i s a inside known allowed, holds .descends i s a inside known allowed),
     ))
-    (decides-all (counter-state z g c) (λ s. (i : ℕ) → i < turns (g .promises) → CounterRow g c z i s)
-    (λ s. decides-all (λ i. counter-row z g c i s) (λ i. CounterRow g c z i s) (λ i. decides-counter-row g c z i s) (turns (g .promises)))
-    (z .states))
+    (decides-counter-rows g c z)
