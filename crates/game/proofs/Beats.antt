@@ -13,7 +13,7 @@ use Rattle.game.specs.Counterstrategy.{Counterstrategy, Descends, turns, kept,
 use Rattle.game.specs.Play.{Again, Finitely, NotNot, led, lead}
 use Rattle.game.specs.Theorems.{Counter-wins}
 use Rattle.game.proofs.Descent.{Later, here, next, and-then, from-on, Less, by-rank, by-ranks}
-use Rattle.game.proofs.Cycle.{turn-still, around}
+use Rattle.game.proofs.Cycle.{turn-if, around}
 use Rattle.game.proofs.Leading.{toward-below, led-state, led-legal, led-descends}
 
 turns-all : (n i : ℕ) → i < n → i < turns n
@@ -42,7 +42,7 @@ module _ (g : Game) (c : Counterstrategy) (toward state : ℕ → ℕ) (below : 
 
   still : (n : ℕ) → met n ≡ false → toward (suc n) ≡ toward n
   unfolding promise-after
-  still n = turn-still (turns (g .promises)) (toward n) (toward (suc n)) (met n) (turn n)
+  still n = turn-if (turns (g .promises)) (toward n) (toward (suc n)) (met n) false (turn n)
 
   meets : 0 < g .promises → Again met
   meets some = by-ranks layer rank Meets (λ n lower. go n lower (descends n))

@@ -1,7 +1,7 @@
 -- Going around: where numbers are gone for in turn, and the one gone for is met again and again, each is met again and
 -- again. The goals of a plan and the promises of a counterstrategy are gone for in this way.
 --   next-inside, next-last  the number after j: one more, or 0 after the last
---   turn-below, turn-still  what is gone for after a turn is below as well; it is still the same where it is not met
+--   turn-below, turn-if     what is gone for after a turn is below as well; it is as whether it was met says
 --   around                  each number below `count` is gone for and met at infinitely many times
 use mathlib.Core.Logic.{⊎-elim}
 use mathlib.Core.Path.{_≡_, refl, _∙_, ap, subst}
@@ -28,14 +28,14 @@ pub turn-below : (count j : ℕ) (b : Bool) → j < count → pick b (next-aroun
 turn-below count j true l = next-below count j l
 turn-below count j false l = l
 
-pub turn-still : (count j t : ℕ) (b : Bool) → t ≡ pick b (next-around count j) j → b ≡ false → t ≡ j
-turn-still count j t b turn unmet = turn ∙ ap (λ c. pick c (next-around count j) j) unmet
+pub turn-if : (count j t : ℕ) (b c : Bool) → t ≡ pick b (next-around count j) j → b ≡ c → t ≡ pick c (next-around count j) j
+turn-if count j t b c turn e = turn ∙ ap (λ d. pick d (next-around count j) j) e
 
 module _ (count : ℕ) (toward : ℕ → ℕ) (met : ℕ → Bool)
     (turn : (n : ℕ) → toward (suc n) ≡ pick (met n) (next-around count (toward n)) (toward n))
     (below : (n : ℕ) → toward n < count) (meets : Again met) where
-  turn-if : (n : ℕ) (b : Bool) → met n ≡ b → toward (suc n) ≡ pick b (next-around count (toward n)) (toward n)
-  turn-if n b e = turn n ∙ ap (λ c. pick c (next-around count (toward n)) (toward n)) e
+  goes : (n : ℕ) (b : Bool) → met n ≡ b → toward (suc n) ≡ pick b (next-around count (toward n)) (toward n)
+  goes n b = turn-if count (toward n) (toward (suc n)) (met n) b (turn n)
 
   -- at m, j is gone for and met
   abbrev Met : ℕ → ℕ → Type 0
@@ -44,7 +44,7 @@ module _ (count : ℕ) (toward : ℕ → ℕ) (met : ℕ → Bool)
   -- what is gone for stays so until it is met
   stays : (n : ℕ) → (met n ≡ false → Later (Met (toward (suc n))) (suc n)) → Later (Met (toward n)) n
   stays n later =
-      ⊎-elim (λ e. here n (refl, e)) (λ e. next (subst (λ j. Later (Met j) (suc n)) (turn-if n false e) (later e)))
+      ⊎-elim (λ e. here n (refl, e)) (λ e. next (subst (λ j. Later (Met j) (suc n)) (goes n false e) (later e)))
       (cases-bool (met n))
 
   first : (n : ℕ) → Later (Met (toward n)) n
@@ -56,7 +56,7 @@ module _ (count : ℕ) (toward : ℕ → ℕ) (met : ℕ → Bool)
   forward j (suc d) n inside e =
       and-then (first n)
       (λ m (same, is-met).
-      let on = turn-if m true is-met ∙ next-inside count (toward m) (omega arith) in
+      let on = goes m true is-met ∙ next-inside count (toward m) (omega arith) in
       next (forward j d (suc m) inside (omega arith)))
 
   -- forward to the last, and on from there
@@ -66,7 +66,7 @@ module _ (count : ℕ) (toward : ℕ → ℕ) (met : ℕ → Bool)
       and-then (forward (pred count) (pred count - toward n) n (omega arith) (omega arith))
       (λ a at-last.
       and-then (first a)
-      (λ m (same, is-met). next (here (suc m) (turn-if m true is-met ∙ next-last count (toward m) (omega arith)))))
+      (λ m (same, is-met). next (here (suc m) (goes m true is-met ∙ next-last count (toward m) (omega arith)))))
 
   -- back to 0, forward to j, and there until it is met
   pub around : (j : ℕ) → j < count → (n : ℕ) → Later (Met j) n

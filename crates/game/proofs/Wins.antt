@@ -11,7 +11,7 @@ use Rattle.game.specs.Plan.{Plan, Progress}
 use Rattle.game.specs.Play.{Again, Fair, now-after, past}
 use Rattle.game.specs.Theorems.{Plan-wins}
 use Rattle.game.proofs.Descent.{here, and-then}
-use Rattle.game.proofs.Cycle.{turn-still, around}
+use Rattle.game.proofs.Cycle.{turn-if, around}
 use Rattle.game.proofs.Waiting.{Waits, meets}
 use Rattle.game.proofs.Following.{follows, stays-on-plan, plan-answers, plan-progress}
 
@@ -41,7 +41,7 @@ module _ (g : Game) (p : Plan) (toward state : ℕ → ℕ) (below : (n : ℕ) �
       (p .rank j t < rank n)
       ⊎ ((p .rank j t ≡ rank n) × (p .waits j t ≡ waits n) × (waits n < g .promises)
       × (g .promise (waits n) (state n) ≡ false)))
-      (sym (turn-still (g .goals) (toward n) (toward (suc n)) (met n) (turn n) unmet)) (progress n unmet)
+      (sym (turn-if (g .goals) (toward n) (toward (suc n)) (met n) false (turn n) unmet)) (progress n unmet)
 
   pub visits : (j : ℕ) → j < g .goals → Again (λ n. g .goal j (state n))
   unfolding goal-after
