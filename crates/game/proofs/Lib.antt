@@ -2,3 +2,13 @@ pub mod FormulaSteps
 pub mod Rows
 pub mod Whole
 pub mod Sections
+pub mod Descent
+pub mod Cycle
+pub mod Waiting
+pub mod Following
+pub mod Wins
+pub mod Leading
+pub mod Beats
+pub mod Loses
+pub mod Tested
+pub mod Sampled

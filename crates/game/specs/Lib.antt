@@ -8,3 +8,5 @@ pub mod Content
 pub mod Reading
 pub mod Meaning
 pub mod Parts
+pub mod Finite
+pub mod Samples

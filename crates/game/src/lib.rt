@@ -4,4 +4,5 @@ pub mod refusal;
 pub mod rules;
 mod section;
 mod steps;
+pub mod theorems;
 pub mod widths;
