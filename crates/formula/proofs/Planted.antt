@@ -38,17 +38,17 @@ rest-length [] = refl
 rest-length (b ∷ bs) = rw (rest-of b bs) (omega arith)
 
 -- a symbol without operands
-pub leaf : (bs : List ℕ) (σ : Symbol) (t : Tree) (b e a w : ℕ) → Begins bs σ →
-    ((fs : List Tree) → plant σ fs ≡ t ∷ fs) → Values t b e a w → Valued bs (rest bs) b e a w
-leaf bs σ t b e a w h is v =
+pub leaf : (bs : List ℕ) (σ : Symbol) (t : Tree) (ss es rs : ℕ → ℕ) (w : ℕ) → Begins bs σ →
+    ((fs : List Tree) → plant σ fs ≡ t ∷ fs) → Values t ss es rs w → Valued bs (rest bs) ss es rs w
+leaf bs σ t ss es rs w h is v =
     let all : forest bs ≡ t ∷ forest (rest bs) = forest-step bs σ h ∙ is (forest (rest bs)) in
     record { values = rw all v; others = rw all refl; less = omega (arith, rest-length bs) }
 
 -- a symbol with one operand
-pub one : (bs after : List ℕ) (σ : Symbol) (op : Tree → Tree) (b e a x w : ℕ) → Begins bs σ →
-    ((fs : List Tree) → plant σ fs ≡ op (top fs) ∷ under fs) → Valued (rest bs) after b e a x →
-    ((t : Tree) → Values t b e a x → Values (op t) b e a w) → Valued bs after b e a w
-one bs after σ op b e a x w h is v op-v =
+pub one : (bs after : List ℕ) (σ : Symbol) (op : Tree → Tree) (ss es rs : ℕ → ℕ) (x w : ℕ) → Begins bs σ →
+    ((fs : List Tree) → plant σ fs ≡ op (top fs) ∷ under fs) → Valued (rest bs) after ss es rs x →
+    ((t : Tree) → Values t ss es rs x → Values (op t) ss es rs w) → Valued bs after ss es rs w
+one bs after σ op ss es rs x w h is v op-v =
     let fs = forest (rest bs) in
     let all : forest bs ≡ op (top fs) ∷ under fs = forest-step bs σ h ∙ is fs in
     record {
@@ -57,39 +57,39 @@ one bs after σ op b e a x w h is v op-v =
       less = omega (arith, rest-length bs, v .less) }
 
 -- a symbol with two operands
-pub two : (bs mid after : List ℕ) (σ : Symbol) (op : Tree → Tree → Tree) (b e a x y w : ℕ) → Begins bs σ →
+pub two : (bs mid after : List ℕ) (σ : Symbol) (op : Tree → Tree → Tree) (ss es rs : ℕ → ℕ) (x y w : ℕ) → Begins bs σ →
     ((fs : List Tree) → plant σ fs ≡ op (top fs) (top (under fs)) ∷ under (under fs)) →
-    Valued (rest bs) mid b e a x → Valued mid after b e a y →
-    ((t u : Tree) → Values t b e a x → Values u b e a y → Values (op t u) b e a w) → Valued bs after b e a w
-two bs mid after σ op b e a x y w h is v u op-v =
+    Valued (rest bs) mid ss es rs x → Valued mid after ss es rs y →
+    ((t u : Tree) → Values t ss es rs x → Values u ss es rs y → Values (op t u) ss es rs w) → Valued bs after ss es rs w
+two bs mid after σ op ss es rs x y w h is v u op-v =
     let fs = forest (rest bs) in
     let all : forest bs ≡ op (top fs) (top (under fs)) ∷ under (under fs) = forest-step bs σ h ∙ is fs in
-    let second : Values (top (under fs)) b e a y = rw (v .others) at (u .values) in
+    let second : Values (top (under fs)) ss es rs y = rw (v .others) at (u .values) in
     record {
       values = rw all (op-v (top fs) (top (under fs)) (v .values) second);
       others = rw all (u .others ∙ ap under (v .others));
       less = omega (arith, rest-length bs, v .less, u .less) }
 
 -- lane by lane, the operators on words are those of the meaning
-pub not-lanes : (b e a x : ℕ) (t : Tree) → Values t b e a x → Values (negation t) b e a (bitXor x 18446744073709551615)
-not-lanes b e a x t v l h =
-    bit-xor x 18446744073709551615 l ∙ rw (v l h, ones-lanes l h) (flips (meaning t (64 * b + l) e a))
+pub not-lanes : (ss es rs : ℕ → ℕ) (x : ℕ) (t : Tree) → Values t ss es rs x → Values (negation t) ss es rs (bitXor x 18446744073709551615)
+not-lanes ss es rs x t v l h =
+    bit-xor x 18446744073709551615 l ∙ rw (v l h, ones-lanes l h) (flips (meaning t (ss l) (es l) (rs l)))
   where
     flips : (p : Bool) → not (Bool·beq p true) ≡ not p
     flips true = refl
     flips false = refl
 
-pub and-lanes : (b e a x y : ℕ) (t u : Tree) → Values t b e a x → Values u b e a y → Values (both t u) b e a (bitAnd x y)
-and-lanes b e a x y t u v w l h = bit-and x y l ∙ rw (v l h, w l h) refl
+pub and-lanes : (ss es rs : ℕ → ℕ) (x y : ℕ) (t u : Tree) → Values t ss es rs x → Values u ss es rs y → Values (both t u) ss es rs (bitAnd x y)
+and-lanes ss es rs x y t u v w l h = bit-and x y l ∙ rw (v l h, w l h) refl
 
-pub or-lanes : (b e a x y : ℕ) (t u : Tree) → Values t b e a x → Values u b e a y → Values (either t u) b e a (bitOr x y)
-or-lanes b e a x y t u v w l h = bit-or x y l ∙ rw (v l h, w l h) refl
+pub or-lanes : (ss es rs : ℕ → ℕ) (x y : ℕ) (t u : Tree) → Values t ss es rs x → Values u ss es rs y → Values (either t u) ss es rs (bitOr x y)
+or-lanes ss es rs x y t u v w l h = bit-or x y l ∙ rw (v l h, w l h) refl
 
-pub same-lanes : (b e a x y : ℕ) (t u : Tree) → Values t b e a x → Values u b e a y →
-    Values (same t u) b e a (bitXor (bitXor x y) 18446744073709551615)
-same-lanes b e a x y t u v w l h =
+pub same-lanes : (ss es rs : ℕ → ℕ) (x y : ℕ) (t u : Tree) → Values t ss es rs x → Values u ss es rs y →
+    Values (same t u) ss es rs (bitXor (bitXor x y) 18446744073709551615)
+same-lanes ss es rs x y t u v w l h =
     bit-xor (bitXor x y) 18446744073709551615 l
-    ∙ rw (bit-xor x y l, v l h, w l h, ones-lanes l h) (twice (Bool·beq (meaning t (64 * b + l) e a) (meaning u (64 * b + l) e a)))
+    ∙ rw (bit-xor x y l, v l h, w l h, ones-lanes l h) (twice (Bool·beq (meaning t (ss l) (es l) (rs l)) (meaning u (ss l) (es l) (rs l))))
   where
     twice : (p : Bool) → not (Bool·beq (not p) true) ≡ p
     twice true = refl
@@ -100,7 +100,7 @@ pub zero-lane : (l : ℕ) → bit 0 l ≡ false
 zero-lane l = bit-past 0 0 l (omega arith) (omega arith)
 
 -- a row without bytes, whose formula is taken as false
-pub empty : (bs : List ℕ) (b e a : ℕ) → length bs < 1 → Valued bs bs b e a 0
+pub empty : (bs : List ℕ) (ss es rs : ℕ → ℕ) → length bs < 1 → Valued bs bs ss es rs 0
 unfolding forest
-empty [] b e a h = record { values = λ l _. zero-lane l; others = refl; less = omega arith }
-empty (x ∷ bs) b e a h = absurd (omega arith)
+empty [] ss es rs h = record { values = λ l _. zero-lane l; others = refl; less = omega arith }
+empty (x ∷ bs) ss es rs h = absurd (omega arith)

@@ -1,11 +1,45 @@
-// The value of a formula in 64 neighbouring states at once: lane l of a word is for the state 64 * block + l.
+// Sixty-four steps at once: bit l of a word, its lane l, is for the step of lane l.
 ghost use mathlib.Core.Path.{_≡_};
-ghost use Prim.Native.Nat.{_+_, _*_};
+ghost use Prim.Native.Nat.{ℕ, _+_, _*_};
 ghost use Rattle.formula.specs.Bits.{bit};
-ghost use Rattle.formula.specs.Values.{Lanes, Valued};
-use crate::symbol::Symbol;
+ghost use Rattle.formula.specs.Values.{Spread};
 
-// Bits 0 to 5 of a state are the same in every block: those of the lane's own number.
+// Which step each lane is for, and the words of its bits.
+pub trait Lanes {
+    // the state before the step of lane l, its move and its answer
+    ghost states: { Self → ℕ → ℕ };
+
+    ghost moves: { Self → ℕ → ℕ };
+
+    ghost answers: { Self → ℕ → ℕ };
+
+    fn state_bit(&self, i: u8) -> u64
+        ensures { λ r. ⌜ Spread r (λ l. bit (states (now (self .entry)) l) i) ⌝ };
+
+    fn move_bit(&self, i: u8) -> u64
+        ensures { λ r. ⌜ Spread r (λ l. bit (moves (now (self .entry)) l) i) ⌝ };
+
+    fn answer_bit(&self, i: u8) -> u64
+        ensures { λ r. ⌜ Spread r (λ l. bit (answers (now (self .entry)) l) i) ⌝ };
+}
+
+// One step, the same in every lane.
+#[derive(Clone, Copy)]
+pub struct Step {
+    pub state: u16,
+    pub moved: u8,
+    pub answer: u8,
+}
+
+// The steps from the 64 neighbouring states 64 * block + l, at one move and one answer.
+#[derive(Clone, Copy)]
+pub struct Block {
+    pub block: u16,
+    pub moved: u8,
+    pub answer: u8,
+}
+
+// Bits 0 to 5 of the states of a block are those of the lane's own number.
 const OF_LANE: [u64; 6] = [
     0xaaaa_aaaa_aaaa_aaaa,
     0xcccc_cccc_cccc_cccc,
@@ -24,53 +58,61 @@ fn bit_of(n: u16, i: u8) -> bool
 
 // The same value in every lane.
 fn spread(value: bool) -> u64
-    ensures { λ r. ⌜ Lanes r (λ _. value) ⌝ }
+    ensures { λ r. ⌜ Spread r (λ _. value) ⌝ }
 {
     if value { u64::MAX } else { 0 }
 }
 
-// Bit i of the state of each lane.
-fn state_bit(block: u16, i: u8) -> u64
-    ensures { λ r. ⌜ Lanes r (λ l. bit (64 * block + l) i) ⌝ }
+// Bit i of one number, in every lane.
+pub fn same_bit(n: u16, i: u8) -> u64
+    ensures { λ r. ⌜ Spread r (λ _. bit n i) ⌝ }
 {
-    if i < 6 {
-        OF_LANE[i as usize]
-    } else {
-        spread(bit_of(block, i - 6))
+    spread(bit_of(n, i))
+}
+
+// Bit i of the number 64 * block + l, in lane l.
+pub fn block_bit(block: u16, i: u8) -> u64
+    ensures { λ r. ⌜ Spread r (λ l. bit (64 * block + l) i) ⌝ }
+{
+    if i < 6 { OF_LANE[i as usize] } else { same_bit(block, i - 6) }
+}
+
+pub impl Lanes for Step as StepLanes {
+    ghost states = { λ s _. s .state };
+
+    ghost moves = { λ s _. s .moved };
+
+    ghost answers = { λ s _. s .answer };
+
+    fn state_bit(&self, i: u8) -> u64 {
+        same_bit(self.state, i)
+    }
+
+    fn move_bit(&self, i: u8) -> u64 {
+        same_bit(self.moved as u16, i)
+    }
+
+    fn answer_bit(&self, i: u8) -> u64 {
+        same_bit(self.answer as u16, i)
     }
 }
 
-// The values of the first formula in the row, and what is left of the row after it.
-pub(crate) fn first<'a>(bytes: &'a [u8], block: u16, moved: u8, answer: u8) -> (u64, &'a [u8])
-    ensures { λ r. ⌜ Valued (now (bytes .entry)) (now (r .1)) block moved answer (r .0) ⌝ }
-{
-    let [byte, rest @ ..] = bytes else {
-        return (0, bytes);
-    };
-    match Symbol::of(*byte) {
-        Symbol::Constant(value) => (spread(value), rest),
-        Symbol::State(i) => (state_bit(block, i), rest),
-        Symbol::Move(i) => (spread(bit_of(moved as u16, i)), rest),
-        Symbol::Answer(i) => (spread(bit_of(answer as u16, i)), rest),
-        Symbol::Unknown => (0, rest),
-        Symbol::Not => {
-            let (x, rest) = first(rest, block, moved, answer);
-            (x ^ u64::MAX, rest)
-        }
-        Symbol::And => {
-            let (x, rest) = first(rest, block, moved, answer);
-            let (y, rest) = first(rest, block, moved, answer);
-            (x & y, rest)
-        }
-        Symbol::Or => {
-            let (x, rest) = first(rest, block, moved, answer);
-            let (y, rest) = first(rest, block, moved, answer);
-            (x | y, rest)
-        }
-        Symbol::Equal => {
-            let (x, rest) = first(rest, block, moved, answer);
-            let (y, rest) = first(rest, block, moved, answer);
-            (x ^ y ^ u64::MAX, rest)
-        }
+pub impl Lanes for Block as BlockLanes {
+    ghost states = { λ b l. 64 * b .block + l };
+
+    ghost moves = { λ b _. b .moved };
+
+    ghost answers = { λ b _. b .answer };
+
+    fn state_bit(&self, i: u8) -> u64 {
+        block_bit(self.block, i)
+    }
+
+    fn move_bit(&self, i: u8) -> u64 {
+        same_bit(self.moved as u16, i)
+    }
+
+    fn answer_bit(&self, i: u8) -> u64 {
+        same_bit(self.answer as u16, i)
     }
 }

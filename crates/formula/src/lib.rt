@@ -14,6 +14,10 @@ pub mod lanes;
 pub mod reading;
 pub mod scope;
 pub mod symbol;
+mod values;
+use lanes::Lanes;
+use lanes::Step;
+use lanes::StepLanes;
 use reading::Fault;
 use scope::Scope;
 use std::alloc::AllocError;
@@ -43,18 +47,18 @@ impl<'a> Formula<'a> {
         out.extend_from_slice(self.bytes)
     }
 
-    // The values in the 64 states from 64 * block on, in the lanes of a word.
-    pub fn lanes(self, block: u16, moved: u8, answer: u8) -> u64
-        ensures { λ r. ⌜ Values (formula-of (now (self .entry .bytes))) block moved answer r ⌝ }
+    // The values in the steps of the lanes, one bit each.
+    pub fn values<L: Lanes>(self, lanes: &L) -> u64
+        ensures { λ r. ⌜ Values (formula-of (now (self .entry .bytes))) (states (now (lanes .entry))) (moves (now (lanes .entry))) (answers (now (lanes .entry))) r ⌝ }
     {
-        let (word, _) = lanes::first(self.bytes, block, moved, answer);
+        let (word, _) = values::first(self.bytes, lanes);
         word
     }
 
-    // The value in one state.
+    // The value in one step.
     pub fn value(self, state: u16, moved: u8, answer: u8) -> bool
         ensures { λ r. ⌜ r ≡ meaning (formula-of (now (self .entry .bytes))) state moved answer ⌝ }
     {
-        (self.lanes(state / 64, moved, answer) >> (state % 64)) % 2 == 1
+        self.values(&Step { state, moved, answer }) % 2 == 1
     }
 }

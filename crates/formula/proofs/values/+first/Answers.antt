@@ -1,5 +1,5 @@
 use mathlib.Core.Path.{_≡_, refl, sym, _∙_}
-use mathlib.Core.Bool.{false}
+use mathlib.Core.Bool.{true, false}
 use mathlib.Core.List.{List, []}
 use Prim.Native.Nat.{ℕ, zero, pred, _<_, _≤_}
 use lib.ListN.{length, getD}
@@ -11,54 +11,60 @@ use Rattle.formula.specs.Symbols.{symbol-of}
 use Rattle.formula.specs.Trees.{constant, state, move, answer, negation, both, either, same}
 use Rattle.formula.specs.Reading.{forest}
 use Rattle.formula.specs.Values.{Valued}
+use Rattle.formula.proofs.Masks.{ones-lanes}
 use Rattle.formula.proofs.Planted.{Begins, zero-lane, empty, leaf, one, two, not-lanes, and-lanes, or-lanes, same-lanes}
-use Rattle.formula.proofs.lanes.+first.Needs as need
+use Rattle.formula.proofs.values.+first.Needs as need
 
 pub returns-in-rest : need.returns-in-rest
-returns-in-rest t c =
+returns-in-rest g t c =
     empty (c .args .bytes .now) _ _ _ (grind (arith, tells))
 
-pub returns-in-Constant : need.returns-in-Constant
-returns-in-Constant t c =
-    let h : Begins (c .args .bytes .now) (Constant (c .in-Constant .value)) = record { some = grind (arith, tells); symbol = cc } in
-    leaf _ _ (constant (c .in-Constant .value)) _ _ _ _ h (λ _. refl) (c .spread .ensures)
+pub returns-in-Constant-false : need.returns-in-Constant-false
+returns-in-Constant-false g t c =
+    let h : Begins (c .args .bytes .now) (Constant false) = record { some = grind (arith, tells); symbol = cc } in
+    leaf _ _ (constant false) _ _ _ _ h (λ _. refl) (λ l _. zero-lane l)
+
+pub returns-in-Constant-true : need.returns-in-Constant-true
+returns-in-Constant-true g t c =
+    let h : Begins (c .args .bytes .now) (Constant true) = record { some = grind (arith, tells); symbol = cc } in
+    leaf _ _ (constant true) _ _ _ _ h (λ _. refl) ones-lanes
 
 pub returns-in-State : need.returns-in-State
-returns-in-State t c =
+returns-in-State g t c =
     let h : Begins (c .args .bytes .now) (State (c .in-State .i)) = record { some = grind (arith, tells); symbol = cc } in
     leaf _ _ (state (c .in-State .i)) _ _ _ _ h (λ _. refl) (c .state-bit .ensures)
 
 pub returns-in-Move : need.returns-in-Move
-returns-in-Move t c =
+returns-in-Move g t c =
     let h : Begins (c .args .bytes .now) (Move (c .in-Move .i)) = record { some = grind (arith, tells); symbol = cc } in
-    leaf _ _ (move (c .in-Move .i)) _ _ _ _ h (λ _. refl) (λ l k. c .spread-in-Move .ensures l k ∙ c .bit-of .ensures)
+    leaf _ _ (move (c .in-Move .i)) _ _ _ _ h (λ _. refl) (c .move-bit .ensures)
 
 pub returns-in-Answer : need.returns-in-Answer
-returns-in-Answer t c =
+returns-in-Answer g t c =
     let h : Begins (c .args .bytes .now) (Answer (c .in-Answer .i)) = record { some = grind (arith, tells); symbol = cc } in
-    leaf _ _ (answer (c .in-Answer .i)) _ _ _ _ h (λ _. refl) (λ l k. c .spread-in-Answer .ensures l k ∙ c .bit-of-in-Answer .ensures)
+    leaf _ _ (answer (c .in-Answer .i)) _ _ _ _ h (λ _. refl) (c .answer-bit .ensures)
 
 pub returns-in-Unknown : need.returns-in-Unknown
-returns-in-Unknown t c =
+returns-in-Unknown g t c =
     let h : Begins (c .args .bytes .now) Unknown = record { some = grind (arith, tells); symbol = cc } in
     leaf _ _ (constant false) _ _ _ _ h (λ _. refl) (λ l k. zero-lane l)
 
 pub returns-in-Not : need.returns-in-Not
-returns-in-Not t c =
+returns-in-Not g t c =
     let h : Begins (c .args .bytes .now) Not = record { some = grind (arith, tells); symbol = cc } in
     one _ _ _ negation _ _ _ _ _ h (λ _. refl) (c .first-x .ensures) (not-lanes _ _ _ _)
 
 pub returns-in-And : need.returns-in-And
-returns-in-And t c =
+returns-in-And g t c =
     let h : Begins (c .args .bytes .now) And = record { some = grind (arith, tells); symbol = cc } in
     two _ _ _ _ both _ _ _ _ _ _ h (λ _. refl) (c .first-x-in-And .ensures) (c .first-y .ensures) (and-lanes _ _ _ _ _)
 
 pub returns-in-Or : need.returns-in-Or
-returns-in-Or t c =
+returns-in-Or g t c =
     let h : Begins (c .args .bytes .now) Or = record { some = grind (arith, tells); symbol = cc } in
     two _ _ _ _ either _ _ _ _ _ _ h (λ _. refl) (c .first-x-in-Or .ensures) (c .first-y-in-Or .ensures) (or-lanes _ _ _ _ _)
 
 pub returns-in-Equal : need.returns-in-Equal
-returns-in-Equal t c =
+returns-in-Equal g t c =
     let h : Begins (c .args .bytes .now) Equal = record { some = grind (arith, tells); symbol = cc } in
     two _ _ _ _ same _ _ _ _ _ _ h (λ _. refl) (c .first-x-in-Equal .ensures) (c .first-y-in-Equal .ensures) (same-lanes _ _ _ _ _)
