@@ -10,6 +10,10 @@ pub const PROMISES: u8 = 8;
 pub const GOALS: u8 = 8;
 pub const STARTS: u8 = 16;
 
+// The most bytes of a rules file: three counts of bits, and with their lengths two step rules, a formula for each of 12
+// state bits, 8 promises and 8 goals; three counts, and 16 starts of two bytes.
+pub const MOST_FILE: u64 = 3 + 256 * (2 + 12 + 8 + 8) + 3 + 2 * 16;
+
 // Formulas one after the other, each after its length; bytes of the file may follow.
 #[derive(Clone, Copy)]
 pub struct Section<'a> {
