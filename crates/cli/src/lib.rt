@@ -18,7 +18,9 @@ pub fn words(rt: &LibcRuntime) -> io::Result<Vec<String>> {
 // The bytes of a file, at most one more than `most`: so a file that is too long shows, and one without end is not read for ever.
 pub fn read_up_to(rt: &LibcRuntime, path: &str, most: u64) -> io::Result<Vec<u8>> {
     let mut bytes = Vec::new(rt.alloc());
-    File::open(rt, path)?.take(most.saturating_add(1)).read_to_end(&mut bytes)?;
+    File::open(rt, path)?
+        .take(most.saturating_add(1))
+        .read_to_end(&mut bytes)?;
     Ok(bytes)
 }
 
@@ -27,7 +29,10 @@ pub fn load(rt: &LibcRuntime, program: &str, path: &str, most: u64) -> Result<Ve
     match read_up_to(rt, path, most) {
         Ok(bytes) => Ok(bytes),
         Err(error) => {
-            eprintln!(rt, "{program}: cannot read {path}: {error}; name a file that exists and may be read")?;
+            eprintln!(
+                rt,
+                "{program}: cannot read {path}: {error}; name a file that exists and may be read"
+            )?;
             Err("unreadable".into())
         }
     }

@@ -57,7 +57,7 @@ bit-of-block block l i h k =
     let places : 6 + (i - 6) ≡ i = omega arith in
     let row : (64 * block + l) / 64 ≡ block = omega arith in
     let whole : (64 * block + l) / 2 ^ i ≡ block / 2 ^ (i - 6) =
-      ap (λ m. (64 * block + l) / 2 ^ m) (sym places) ∙ sym (shr-shr (64 * block + l) 6 (i - 6)) ∙ ap (λ m. m / 2 ^ (i - 6)) row in
+    ap (λ m. (64 * block + l) / 2 ^ m) (sym places) ∙ sym (shr-shr (64 * block + l) 6 (i - 6)) ∙ ap (λ m. m / 2 ^ (i - 6)) row in
     ap (λ m. eqb (m % 2) 1) whole
 
 -- the bits below 6 of a state are those of its place in the block

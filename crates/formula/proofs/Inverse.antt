@@ -150,7 +150,8 @@ hold-pair sc b k m bs op e w f (t ∷ (u ∷ fs)) h =
     record {
       count = omega (arith, h .count);
       bytes = rw (w t u, e) (ap (λ r. k ∷ r) (flat ∙ h .bytes));
-      fit = (f t u (h .fit .0) (h .fit .1 .0), h .fit .1 .1) }
+      fit = (f t u (h .fit .0) (h .fit .1 .0), h .fit .1 .1);
+    }
 
 hold-not : (sc : Scope) (b m : ℕ) (bs : List ℕ) → b ≡ 2 → (fs : List Tree) → Holds sc (m + 1) bs fs →
     Holds sc (suc m) (b ∷ bs) (negation (top fs) ∷ under fs)

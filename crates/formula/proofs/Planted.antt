@@ -54,7 +54,8 @@ one bs after σ op ss es rs x w h is v op-v =
     record {
       values = rw all (op-v (top fs) (v .values));
       others = rw all (v .others);
-      less = omega (arith, rest-length bs, v .less) }
+      less = omega (arith, rest-length bs, v .less);
+    }
 
 -- a symbol with two operands
 pub two : (bs mid after : List ℕ) (σ : Symbol) (op : Tree → Tree → Tree) (ss es rs : ℕ → ℕ) (x y w : ℕ) → Begins bs σ →
@@ -68,7 +69,8 @@ two bs mid after σ op ss es rs x y w h is v u op-v =
     record {
       values = rw all (op-v (top fs) (top (under fs)) (v .values) second);
       others = rw all (u .others ∙ ap under (v .others));
-      less = omega (arith, rest-length bs, v .less, u .less) }
+      less = omega (arith, rest-length bs, v .less, u .less);
+    }
 
 -- lane by lane, the operators on words are those of the meaning
 pub not-lanes : (ss es rs : ℕ → ℕ) (x : ℕ) (t : Tree) → Values t ss es rs x → Values (negation t) ss es rs (bitXor x 18446744073709551615)

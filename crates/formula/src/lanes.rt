@@ -74,7 +74,11 @@ pub fn same_bit(n: u16, i: u8) -> u64
 pub fn block_bit(block: u16, i: u8) -> u64
     ensures { λ r. ⌜ Spread r (λ l. bit (64 * block + l) i) ⌝ }
 {
-    if i < 6 { OF_LANE[i as usize] } else { same_bit(block, i - 6) }
+    if i < 6 {
+        OF_LANE[i as usize]
+    } else {
+        same_bit(block, i - 6)
+    }
 }
 
 pub impl Lanes for Step as StepLanes {

@@ -10,11 +10,13 @@ ghost use Rattle.formula.specs.Trees.{Tree, meaning, written, Fits};
 ghost use Rattle.formula.specs.Reading.{formula-of};
 ghost use Rattle.formula.specs.Values.{Values};
 ghost use Rattle.formula.specs.Laws.{Reads, Formed};
+
 pub mod lanes;
 pub mod reading;
 pub mod scope;
 pub mod symbol;
 mod values;
+
 use lanes::Lanes;
 use lanes::Step;
 use lanes::StepLanes;
@@ -59,6 +61,14 @@ impl<'a> Formula<'a> {
     pub fn value(self, state: u16, moved: u8, answer: u8) -> bool
         ensures { λ r. ⌜ r ≡ meaning (formula-of (now (self .entry .bytes))) state moved answer ⌝ }
     {
-        self.values(&Step { state, moved, answer }) % 2 == 1
+        self.values(
+            &Step {
+                state,
+                moved,
+                answer,
+            },
+        )
+            % 2
+            == 1
     }
 }

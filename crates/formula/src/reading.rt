@@ -37,7 +37,11 @@ fn operands(bytes: &[u8], at: usize, wanted: usize, scope: Scope) -> Result<(), 
     ensures { λ r. ⌜ r ≡ scan scope at wanted (now (bytes .entry)) ⌝ }
 {
     let [byte, rest @ ..] = bytes else {
-        return if wanted == 0 { Ok(()) } else { Err(Fault::Short) };
+        return if wanted == 0 {
+            Ok(())
+        } else {
+            Err(Fault::Short)
+        };
     };
     if wanted == 0 {
         return Err(Fault::Long);

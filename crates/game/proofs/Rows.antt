@@ -38,12 +38,12 @@ many-parted step of zero r m q a res h s w o p = absurd (omega arith)
 many-parted step of (suc n) r m q a (Ok x) h s w o p =
     let e : suc n - 1 ≡ n = omega arith in
     let later : many (step (r .whole)) n (now (m .rest)) ≡ part (of (suc n - 1) (now (m .rest))) (now (q .rest)) =
-      ap (λ x. many (step x) n (now (m .rest))) (sym w) ∙ ap (λ k. many (step (m .whole)) k (now (m .rest))) (sym e) ∙ p .0 in
+    ap (λ x. many (step x) n (now (m .rest))) (sym w) ∙ ap (λ k. many (step (m .whole)) k (now (m .rest))) (sym e) ∙ p .0 in
     (many-more (step (r .whole)) n _ _ _ a _ s later ∙ ap (λ row. part row (now (q .rest))) (sym o), p .1 ∙ w)
 many-parted step of (suc n) r m q a (Err x) h s w o p =
     let e : suc n - 1 ≡ n = omega arith in
     let later : many (step (r .whole)) n (now (m .rest)) ≡ refused x =
-      ap (λ x. many (step x) n (now (m .rest))) (sym w) ∙ ap (λ k. many (step (m .whole)) k (now (m .rest))) (sym e) ∙ p in
+    ap (λ x. many (step x) n (now (m .rest))) (sym w) ∙ ap (λ k. many (step (m .whole)) k (now (m .rest))) (sym e) ∙ p in
     many-later (step (r .whole)) n _ _ a x s later
 
 -- a row whose first part is refused
@@ -69,6 +69,7 @@ formula-first whole sc (suc n) (l ∷ bs) f rest h e =
         take l bs ∷ formulas-of n (drop l bs) ≡ f ∷ formulas-of n rest
     here true at e = cc
     here false at e = no-refusal e
+
     first : (r : Result (Unit {0}) Fault) → judged whole (whole - length (l ∷ bs)) l bs r ≡ part f rest →
         take l bs ∷ formulas-of n (drop l bs) ≡ f ∷ formulas-of n rest
     first (Ok x) e = here (leb l (length bs)) _ e

@@ -23,8 +23,16 @@ Triple = List ℕ × List ℕ × List (List ℕ)
 abbrev pub contents : Widths → Triple → List (List ℕ) → List (List ℕ) → List ℕ → Content
 contents w t ps gs ss =
     record {
-      state = w .state; moves = w .moves; answer = w .answer; move-rule = t .0; answer-rule = t .1; next = t .2;
-      promises = ps; goals = gs; starts = ss }
+      state = w .state;
+      moves = w .moves;
+      answer = w .answer;
+      move-rule = t .0;
+      answer-rule = t .1;
+      next = t .2;
+      promises = ps;
+      goals = gs;
+      starts = ss;
+    }
 
 -- what is read after each part
 abbrev pub after-goals : ℕ → Widths → Triple → List (List ℕ) → List (List ℕ) → List ℕ → Step Content
@@ -100,11 +108,11 @@ went (refused r) k b end f e = no-refusal e
 pub widths-few : (n : ℕ) (bs : List ℕ) (w : Widths) (end : List ℕ) → read-widths n bs ≡ part w end → Few w
 widths-few n bs w end =
     went (read-width n 12 bs) _ w end (λ s r₁ e₁. went (read-width n 6 r₁) _ w end (λ m r₂ e₂. went (read-width n 6 r₂) _ w end (λ a r₃ e₃ e.
-      few s m a (width-fits n 12 bs s r₁ e₁) (width-fits n 6 r₁ m r₂ e₂) (width-fits n 6 r₂ a r₃ e₃) (cc))))
+    few s m a (width-fits n 12 bs s r₁ e₁) (width-fits n 6 r₁ m r₂ e₂) (width-fits n 6 r₂ a r₃ e₃) (cc))))
   where
     few : (s m a : ℕ) → s ≤ 12 → m ≤ 6 → a ≤ 6 → w ≡ record { state = s; moves = m; answer = a } → Few w
     few s m a x y z e =
-      record { state = omega (arith, ap (λ v. v .state) e); moves = omega (arith, ap (λ v. v .moves) e); answer = omega (arith, ap (λ v. v .answer) e) }
+        record { state = omega (arith, ap (λ v. v .state) e); moves = omega (arith, ap (λ v. v .moves) e); answer = omega (arith, ap (λ v. v .answer) e) }
 
 -- so the number of states is the one that the rules speak of
 pub few-states : {n : ℕ} {w : Widths} → n ≡ 2 ^ min (w .state) 12 → Few w → n ≡ 2 ^ w .state
@@ -114,9 +122,16 @@ few-states {n} {w} e f = let same : min (w .state) 12 ≡ w .state = omega (arit
 pub at-end : (n : ℕ) (w : Widths) (st : StepRules) (ps gs : List (List ℕ)) (ss rest : List ℕ) → rest ≡ [] → Few w → st .next .count ≡ w .state →
     read-end n (contents w (steps-of st) ps gs ss) rest
     ≡ part (record {
-      state = min (w .state) 12; moves = min (w .moves) 6; answer = min (w .answer) 6;
-      move-rule = now (st .moves .bytes); answer-rule = now (st .answers .bytes);
-      next = formulas-of (min (st .next .count) 12) (now (st .next .bytes)); promises = ps; goals = gs; starts = ss }) []
+      state = min (w .state) 12;
+      moves = min (w .moves) 6;
+      answer = min (w .answer) 6;
+      move-rule = now (st .moves .bytes);
+      answer-rule = now (st .answers .bytes);
+      next = formulas-of (min (st .next .count) 12) (now (st .next .bytes));
+      promises = ps;
+      goals = gs;
+      starts = ss;
+    }) []
 at-end n w st ps gs ss rest e f k =
     let s : min (w .state) 12 ≡ w .state = omega (arith, f .state) in
     let m : min (w .moves) 6 ≡ w .moves = omega (arith, f .moves) in

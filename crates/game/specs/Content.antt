@@ -128,4 +128,5 @@ content r =
       next = formulas-of (min (r .steps .next .count) 12) (now (r .steps .next .bytes));
       promises = formulas-of (r .promises .count) (now (r .promises .bytes));
       goals = formulas-of (r .goals .count) (now (r .goals .bytes));
-      starts = starts-of (r .starts .count) (now (r .starts .bytes)) }
+      starts = starts-of (r .starts .count) (now (r .starts .bytes));
+    }

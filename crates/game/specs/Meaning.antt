@@ -28,9 +28,10 @@ game-of c =
     record {
       moves = λ s e. ltb s (2 ^ c .state) && (ltb e (2 ^ c .moves) && value-of (c .move-rule) s e 0);
       allowed = λ s e a.
-        ltb s (2 ^ c .state) && (ltb e (2 ^ c .moves) && (ltb a (2 ^ c .answer) && value-of (c .answer-rule) s e a));
+          ltb s (2 ^ c .state) && (ltb e (2 ^ c .moves) && (ltb a (2 ^ c .answer) && value-of (c .answer-rule) s e a));
       after = λ s e a. number (c .next) s e a;
       promises = length (c .promises);
       promise = λ i s. value-of (getD (c .promises) i []) s 0 0;
       goals = length (c .goals);
-      goal = λ j s. value-of (getD (c .goals) j []) s 0 0 }
+      goal = λ j s. value-of (getD (c .goals) j []) s 0 0;
+    }

@@ -83,7 +83,7 @@ read-group whole sc least most bs = then (read-count whole least most bs) (λ n 
 abbrev pub read-start : ℕ → ℕ → List ℕ → Step ℕ
 read-start whole states bs =
     then (read-byte whole bs) (λ low rest. then (read-byte whole rest) (λ high rest.
-      cond (ltb (low + 256 * high) states) (part (low + 256 * high) rest) (refused (Start (whole - length bs)))))
+    cond (ltb (low + 256 * high) states) (part (low + 256 * high) rest) (refused (Start (whole - length bs)))))
 
 -- n states one after the other
 abbrev pub read-starts : ℕ → ℕ → ℕ → List ℕ → Step (List ℕ)
@@ -102,7 +102,7 @@ read-end whole a (b ∷ bs) = refused (GoesOn (whole - length (b ∷ bs)))
 abbrev pub read-widths : ℕ → List ℕ → Step Widths
 read-widths whole bs =
     then (read-width whole 12 bs) (λ s rest. then (read-width whole 6 rest) (λ m rest. then (read-width whole 6 rest) (λ a rest.
-      part (record { state = s; moves = m; answer = a }) rest)))
+    part (record { state = s; moves = m; answer = a }) rest)))
 
 -- the move rule, the answer rule, and for each state bit its value after a step
 abbrev pub read-steps : ℕ → Widths → List ℕ → Step (List ℕ × List ℕ × List (List ℕ))
@@ -110,7 +110,7 @@ read-steps whole w bs =
     then (read-formula whole (move-scope (w .state) (w .moves)) bs) (λ moves rest.
     then (read-formula whole (step-scope (w .state) (w .moves) (w .answer)) rest) (λ answers rest.
     then (read-formulas whole (step-scope (w .state) (w .moves) (w .answer)) (w .state) rest) (λ next rest.
-      part (moves, answers, next) rest)))
+    part (moves, answers, next) rest)))
 
 -- the whole file: bits, step rules, promises, goals, starts, and nothing after them
 unfoldable pub rules-in : List ℕ → Step Content
@@ -120,12 +120,19 @@ rules-in file =
     then (read-group (length file) (state-scope (w .state)) 0 8 rest) (λ promises rest.
     then (read-group (length file) (state-scope (w .state)) 1 8 rest) (λ goals rest.
     then (read-start-group (length file) (2 ^ w .state) 1 16 rest) (λ starts rest.
-      read-end (length file)
-      (record {
-        state = w .state; moves = w .moves; answer = w .answer;
-        move-rule = steps .0; answer-rule = steps .1; next = steps .2;
-        promises = promises; goals = goals; starts = starts })
-      rest)))))
+    read-end (length file)
+    (record {
+      state = w .state;
+      moves = w .moves;
+      answer = w .answer;
+      move-rule = steps .0;
+      answer-rule = steps .1;
+      next = steps .2;
+      promises = promises;
+      goals = goals;
+      starts = starts;
+    })
+    rest)))))
 
 -- what a reader of rules promises: the rules that the file holds, or the refusal
 abbrev pub Reads : List ℕ → Result Rules Refusal → Type 0

@@ -107,7 +107,12 @@ impl<'a> Reader<'a> {
     }
 
     // A count and a row of that many formulas.
-    pub(crate) fn group(&mut self, least: u8, most: u8, scope: Scope) -> Result<Section<'a>, Refusal>
+    pub(crate) fn group(
+        &mut self,
+        least: u8,
+        most: u8,
+        scope: Scope,
+    ) -> Result<Section<'a>, Refusal>
         ensures { λ r. ⌜ Parted (now (self .entry)) (now (self .exit)) r (λ s. formulas-of (s .count) (now (s .bytes))) (λ w. read-group w scope least most) ⌝ }
     {
         let n = self.count(least, most)?;
@@ -140,7 +145,12 @@ impl<'a> Reader<'a> {
     }
 
     // A count and a row of that many states.
-    pub(crate) fn start_group(&mut self, least: u8, most: u8, states: u32) -> Result<Starts<'a>, Refusal>
+    pub(crate) fn start_group(
+        &mut self,
+        least: u8,
+        most: u8,
+        states: u32,
+    ) -> Result<Starts<'a>, Refusal>
         ensures { λ r. ⌜ Parted (now (self .entry)) (now (self .exit)) r (λ s. starts-of (s .count) (now (s .bytes))) (λ w. read-start-group w states least most) ⌝ }
     {
         let n = self.count(least, most)?;
@@ -167,7 +177,11 @@ impl<'a> Reader<'a> {
         let state = self.width(STATE_BITS)?;
         let moves = self.width(MOVE_BITS)?;
         let answer = self.width(ANSWER_BITS)?;
-        Ok(Widths { state, moves, answer })
+        Ok(Widths {
+            state,
+            moves,
+            answer,
+        })
     }
 
     // The rules of a step.
@@ -178,7 +192,11 @@ impl<'a> Reader<'a> {
         let moves = self.formula(widths.move_scope())?;
         let answers = self.formula(widths.step_scope())?;
         let next = self.section(widths.state, widths.step_scope())?;
-        Ok(StepRules { moves, answers, next })
+        Ok(StepRules {
+            moves,
+            answers,
+            next,
+        })
     }
 }
 

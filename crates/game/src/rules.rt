@@ -7,7 +7,9 @@ use formula::Formula;
 
 // The most promises, goals and start states.
 pub const PROMISES: u8 = 8;
+
 pub const GOALS: u8 = 8;
+
 pub const STARTS: u8 = 16;
 
 // The most bytes of a rules file: three counts of bits, and with their lengths two step rules, a formula for each of 12
@@ -50,13 +52,22 @@ impl<'a> Rules<'a> {
     pub fn read(file: &'a [u8]) -> Result<Rules<'a>, Refusal>
         ensures { λ r. ⌜ Reads (now (file .entry)) r ⌝ }
     {
-        let mut reader = Reader { rest: file, whole: file.len() };
+        let mut reader = Reader {
+            rest: file,
+            whole: file.len(),
+        };
         let widths = reader.widths()?;
         let steps = reader.steps(widths)?;
         let promises = reader.group(0, PROMISES, widths.state_scope())?;
         let goals = reader.group(1, GOALS, widths.state_scope())?;
         let starts = reader.start_group(1, STARTS, widths.states())?;
         reader.end()?;
-        Ok(Rules { widths, steps, promises, goals, starts })
+        Ok(Rules {
+            widths,
+            steps,
+            promises,
+            goals,
+            starts,
+        })
     }
 }

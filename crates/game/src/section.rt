@@ -38,7 +38,11 @@ pub(crate) fn spelt(bytes: &[u8], n: u8, state: u16, moved: u8, answer: u8) -> u
         return 0;
     }
     let (first, others) = cut(bytes);
-    let low = if first.value(state, moved, answer) { 1 } else { 0 };
+    let low = if first.value(state, moved, answer) {
+        1
+    } else {
+        0
+    };
     let high = spelt(others, n - 1, state, moved, answer);
     low + 2 * high
 }
@@ -48,6 +52,10 @@ impl<'a> Section<'a> {
     pub fn formula(self, i: u8) -> Formula<'a>
         ensures { λ r. ⌜ now (r .bytes) ≡ getD (formulas-of (self .entry .count) (now (self .entry .bytes))) i [] ⌝ }
     {
-        if i < self.count { nth(self.bytes, i) } else { Formula { bytes: &[] } }
+        if i < self.count {
+            nth(self.bytes, i)
+        } else {
+            Formula { bytes: &[] }
+        }
     }
 }

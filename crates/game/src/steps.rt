@@ -30,7 +30,13 @@ impl Rules<'_> {
     pub fn after(&self, state: u16, moved: u8, answer: u8) -> u16
         ensures { λ r. ⌜ r ≡ game-of (content (now (self .entry))) .after state moved answer ⌝ }
     {
-        spelt(self.steps.next.bytes, self.steps.next.count.min(STATE_BITS), state, moved, answer)
+        spelt(
+            self.steps.next.bytes,
+            self.steps.next.count.min(STATE_BITS),
+            state,
+            moved,
+            answer,
+        )
     }
 
     // Whether promise i holds in the state; one that there is not holds nowhere.

@@ -6,7 +6,9 @@ use formula::scope::Scope;
 
 // The most bits of each.
 pub const STATE_BITS: u8 = 12;
+
 pub const MOVE_BITS: u8 = 6;
+
 pub const ANSWER_BITS: u8 = 6;
 
 #[derive(Clone, Copy, PartialEq, Eq, Debug)]
@@ -21,21 +23,33 @@ impl Widths {
     pub fn move_scope(self) -> Scope
         ensures { λ r. ⌜ r ≡ move-scope (self .state) (self .moves) ⌝ }
     {
-        Scope { state: self.state, moves: self.moves, answer: 0 }
+        Scope {
+            state: self.state,
+            moves: self.moves,
+            answer: 0,
+        }
     }
 
     // The bits of the answer rule and of the values after a step.
     pub fn step_scope(self) -> Scope
         ensures { λ r. ⌜ r ≡ step-scope (self .state) (self .moves) (self .answer) ⌝ }
     {
-        Scope { state: self.state, moves: self.moves, answer: self.answer }
+        Scope {
+            state: self.state,
+            moves: self.moves,
+            answer: self.answer,
+        }
     }
 
     // The bits of promises and goals.
     pub fn state_scope(self) -> Scope
         ensures { λ r. ⌜ r ≡ state-scope (self .state) ⌝ }
     {
-        Scope { state: self.state, moves: 0, answer: 0 }
+        Scope {
+            state: self.state,
+            moves: 0,
+            answer: 0,
+        }
     }
 
     // How many states there are; a count of bits above the limit is taken as the limit.

@@ -18,7 +18,8 @@ returns-in-Break-read c =
       outcome = refused;
       formed = λ e. absurd (both-ways false refl e);
       again = λ t f w small.
-        absurd (no-fault (c .in-Break-read .field-0 .0) (sym refused ∙ ap (reading (c .args .scope)) w ∙ written-read (c .args .scope) t f small .0)) })
+          absurd (no-fault (c .in-Break-read .field-0 .0) (sym refused ∙ ap (reading (c .args .scope)) w ∙ written-read (c .args .scope) t f small .0));
+    })
 
 pub returns : need.returns
 returns c =
@@ -26,4 +27,5 @@ returns c =
     record {
       outcome = (whole, refl);
       formed = λ _. read-written (c .args .scope) (c .args .bytes .now) whole;
-      again = λ t f w small. (refl, ap formula-of w ∙ written-read (c .args .scope) t f small .1) }
+      again = λ t f w small. (refl, ap formula-of w ∙ written-read (c .args .scope) t f small .1);
+    }

@@ -11,4 +11,5 @@ returns c =
     let h : 0 < length (c .args .bytes .now) = grind (arith, tells) in
     record {
       first = c .split-at .ensures .front ∙ rw (c .min .ensures) (cut-first (c .args .bytes .now) h);
-      others = c .split-at .ensures .back ∙ rw (c .min .ensures) (cut-others (c .args .bytes .now) h) }
+      others = c .split-at .ensures .back ∙ rw (c .min .ensures) (cut-others (c .args .bytes .now) h);
+    }
