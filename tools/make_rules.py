@@ -14,8 +14,7 @@ The text has one statement to a line; '#' starts a comment.
     goal FORMULA          what the controller is to bring about again and again (1 to 8 lines)
     start NAME=1 ..       a state to start from, where bits not named are 0; or its number (1 to 16 lines)
 Formulas, the tightest first: true, false, names and ( ); not; =; and; or; -> (if .. then)."""
-import argparse, re, sys
-from pathlib import Path
+import argparse, pathlib, re, sys
 
 BITS = {"state": (16, 12), "move": (32, 6), "answer": (48, 6)}  # the byte of bit 0, and how many bits there may be
 COUNTS = {"promise": (0, 8), "goal": (1, 8), "start": (1, 16)}
@@ -131,8 +130,8 @@ def rules_of(path):
 
 def main():
     options = argparse.ArgumentParser(description=__doc__, formatter_class=argparse.RawDescriptionHelpFormatter)
-    options.add_argument("texts", nargs="+", type=Path)
-    options.add_argument("-o", dest="rules", type=Path)
+    options.add_argument("texts", nargs="+", type=pathlib.Path)
+    options.add_argument("-o", dest="rules", type=pathlib.Path)
     options.add_argument("--check", action="store_true")
     given = options.parse_args()
     if given.rules and len(given.texts) > 1:
