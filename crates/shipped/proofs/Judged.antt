@@ -29,9 +29,9 @@ rules-within r =
       states = λ s e legal. ltb-true _ _ (and-parts _ _ legal .0);
       moves = λ s e legal. ltb-true _ _ (and-parts _ _ (and-parts _ _ legal .1) .0);
       answers = λ s e a allowed.
-        let here : Bool = ltb s (2 ^ r .state) in
-        let made : Bool = ltb e (2 ^ r .moves) in
-        ltb-true _ _ (and-parts _ (value-of (r .answer-rule) s e a) (and-parts made _ (and-parts here _ allowed .1) .1) .0);
+          let here : Bool = ltb s (2 ^ r .state) in
+          let made : Bool = ltb e (2 ^ r .moves) in
+          ltb-true _ _ (and-parts _ (value-of (r .answer-rule) s e a) (and-parts made _ (and-parts here _ allowed .1) .1) .0);
     }
 
 -- each state that is to be won is known by the plan, and each other one by the counterstrategy
@@ -57,5 +57,5 @@ judged file won p c r reads some inside planned countered covered =
       plan-holds = plan;
       counter-holds = counter;
       verdict = λ s below. verdict (game-of r) p c s (won s) some plan counter
-        (decides-all _ (λ s. pick (won s) (p .known 0 s) (c .known s) ≡ true) (λ s. (λ e. e, λ e. e)) (2 ^ r .state) .0 covered s below);
+          (decides-all _ (λ s. pick (won s) (p .known 0 s) (c .known s) ≡ true) (λ s. (λ e. e, λ e. e)) (2 ^ r .state) .0 covered s below);
     }

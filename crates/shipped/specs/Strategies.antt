@@ -1,8 +1,8 @@
 -- How the shipped games are won: a plan where the controller wins, a counterstrategy where the environment does. Assumes nothing.
---   no-plan, no-counter             they know no state
---   a-plan, b-plan, c-plan, d-plan  the games that are won everywhere
+--   no-plan, no-counter               they know no state
+--   a-plan, b-plan, c-plan, d-plan    the games that are won everywhere; d-distance: how far the cart is from a goal
 --   c1-counter, e-counter, g-counter  the games that are lost everywhere
---   f-plan, f-counter               the game that is won in one state and lost in the other
+--   f-plan, f-counter                 the game that is won in one state and lost in the other
 -- A state is a number; the bit that a game's text names first is bit 0.
 use mathlib.Core.Bool.{true, false, _||_}
 use Prim.Native.Nat.{ℕ, _+_, _-_, _*_, _%_, _^_}
@@ -26,7 +26,8 @@ a-plan =
       known = λ j s. ltb s 4;
       answer = λ j s e. e;
       rank = λ j s. pick (eqb s 1) 1 0;
-      waits = λ j s. 0 }
+      waits = λ j s. 0;
+    }
 
 -- B: going for goal j, grant request j if it is open or asked for now
 abbrev pub b-plan : Plan
@@ -35,7 +36,8 @@ b-plan =
       known = λ j s. ltb s 16;
       answer = λ j s e. pick (bit s j || bit e j) (2 ^ j) 0;
       rank = λ j s. pick (bit s j) 1 0;
-      waits = λ j s. 0 }
+      waits = λ j s. 0;
+    }
 
 -- C: grant when the sensor comes, and wait for that, promise 0; bit 0 is the sensor, bit 1 the grant
 abbrev pub c-plan : Plan
@@ -44,7 +46,8 @@ c-plan =
       known = λ j s. ltb s 4;
       answer = λ j s e. e;
       rank = λ j s. pick (bit s 1) 0 (pick (bit s 0) 2 1);
-      waits = λ j s. 0 }
+      waits = λ j s. 0;
+    }
 
 -- D: how far the cart is from the place of goal j: from 0, or from 3
 abbrev pub d-distance : ℕ → ℕ → ℕ
@@ -57,7 +60,8 @@ d-plan =
       known = λ j s. ltb s 8;
       answer = λ j s e. pick (eqb (d-distance j s) 0) 0 (2 - j);
       rank = λ j s. 2 * d-distance j s + pick (bit s 2) 0 1;
-      waits = λ j s. 0 }
+      waits = λ j s. 0;
+    }
 
 -- C1: never a sensor; a state with a grant has a layer of its own
 abbrev pub c1-counter : Counterstrategy
@@ -67,7 +71,8 @@ c1-counter =
       layer = λ s. pick (bit s 1) 1 0;
       avoid = λ s. 0;
       move = λ i s. 0;
-      rank = λ i s. 0 }
+      rank = λ i s. 0;
+    }
 
 -- E: push at place 1; the layers go from place 0 by place 1 to places 2 and 3
 abbrev pub e-counter : Counterstrategy
@@ -77,7 +82,8 @@ e-counter =
       layer = λ s. 2 - s;
       avoid = λ s. 0;
       move = λ i s. pick (eqb s 1) 1 0;
-      rank = λ i s. 0 }
+      rank = λ i s. 0;
+    }
 
 -- F: in state 1 any answer will do
 abbrev pub f-plan : Plan
@@ -95,4 +101,5 @@ g-counter =
       layer = λ s. pick (bit s 2) 1 0;
       avoid = λ s. 0;
       move = λ i s. pick (bit s (1 - i)) 0 (2 ^ i);
-      rank = λ i s. pick (bit s i) 0 (pick (bit s (1 - i)) 2 1) }
+      rank = λ i s. pick (bit s i) 0 (pick (bit s (1 - i)) 2 1);
+    }
