@@ -1,4 +1,7 @@
 // What the programs share: their arguments, files read up to a limit, and the ways to end badly.
+ghost use mathlib.Core.Path.{_≡_};
+ghost use mathlib.Core.Bool.{true};
+ghost use Rattle.std.specs.Results.{isErr};
 use game::refusal::Refusal;
 use std::env;
 use std::error::AnyError;
@@ -39,13 +42,17 @@ pub fn load(rt: &LibcRuntime, program: &str, path: &str, most: u64) -> Result<Ve
 }
 
 // Wrong usage: a line on standard error that says what to write.
-pub fn misused(rt: &LibcRuntime, program: &str, usage: &str) -> Result<(), AnyError> {
+pub fn misused(rt: &LibcRuntime, program: &str, usage: &str) -> Result<(), AnyError>
+    ensures { λ r. ⌜ isErr r ≡ true ⌝ }
+{
     eprintln!(rt, "{program}: write {usage}; {program} --help says more")?;
     Err("usage".into())
 }
 
 // A refusal is printed by its number and place, and ends the program with status 1.
-pub fn refused(rt: &LibcRuntime, refusal: Refusal) -> Result<(), AnyError> {
+pub fn refused(rt: &LibcRuntime, refusal: Refusal) -> Result<(), AnyError>
+    ensures { λ r. ⌜ isErr r ≡ true ⌝ }
+{
     let number = refusal.number();
     let place = refusal.place();
     println!(rt, "refused {number} at {place}")?;
