@@ -2,6 +2,7 @@ pub mod FormulaSteps
 pub mod Rows
 pub mod Whole
 pub mod Sections
+pub mod PartInverse
 pub mod Descent
 pub mod Cycle
 pub mod Waiting
