@@ -3,6 +3,7 @@ pub mod Rows
 pub mod Whole
 pub mod Sections
 pub mod PartInverse
+pub mod RoundTrip
 pub mod Descent
 pub mod Cycle
 pub mod Waiting

@@ -34,6 +34,11 @@ pub record Inverse {A : Type 0} (step : List ℕ → Step A) (bytes-of : A → L
   pub back : (bs : List ℕ) (a : A) (rest : List ℕ) → All Byte bs → step bs ≡ part a rest → Exact bytes-of P bs a rest
   pub forth : (a : A) (rest : List ℕ) → P a → step (bytes-of a ++ rest) ≡ part a rest
 
+-- the same by other names
+pub exact-as : {A : Type 0} {bytes-of : A → List ℕ} {P : A → Type 0} {bs : List ℕ} {a b : A} {rest left : List ℕ} → a ≡ b → rest ≡ left →
+    Exact bytes-of P bs a rest → Exact bytes-of P bs b left
+exact-as p q x = rw (← p, ← q) x
+
 -- what passed a test was that part
 passed : {A X : Type 0} (t : Bool) (x a : A) (more rest : List ℕ) (r : Refusal) → (t ≡ true → x ≡ a → more ≡ rest → X) →
     cond t (part x more) (refused r) ≡ part a rest → X
@@ -50,7 +55,7 @@ tested-byte whole test P r to from =
         then (read-byte whole bs) (λ b rest. cond (test b) (part b rest) (refused (r bs))) ≡ part b rest → Exact (λ b. b ∷ []) P bs b rest
     back [] b rest all e = no-refusal e
     back (x ∷ bs) b rest all e =
-      passed (test x) x b bs rest (r (x ∷ bs)) (λ t same left. rw (← same, ← left) (record { sound = to x t; same = refl; bytes = all .1 })) e
+      passed (test x) x b bs rest (r (x ∷ bs)) (λ t same left. exact-as same left (record { sound = to x t; same = refl; bytes = all .1 })) e
 
 -- a count of bits
 pub width-inverse : (whole most : ℕ) → Inverse (read-width whole most) (λ b. b ∷ []) (λ b. b ≤ most)
@@ -80,7 +85,7 @@ formula-inverse whole sc = record { back = back; forth = forth }
         Exact with-length (Sound sc) (l ∷ bs) f rest
     cut l bs f rest all r t same left =
       let long : length (take l bs) ≡ l = length-take-le l bs (leb-true l (length bs) t) in
-      rw (← same, ← left)
+      exact-as same left
       (record { sound = r; same = rw long (ap (λ xs. l ∷ xs) (take-append-drop l bs)); bytes = all-drop l bs all })
     judge : (l : ℕ) (bs f rest : List ℕ) (at : ℕ) → All Byte bs → (r : Result (Unit {0}) Fault) → reading sc (take l bs) ≡ r →
         judged whole at l bs r ≡ part f rest → Exact with-length (Sound sc) (l ∷ bs) f rest
@@ -134,7 +139,7 @@ row-inverse {A} step bytes-of P all-bytes one none some n = record { back = back
     back zero bs row rest all e =
       let empty : [] ≡ row = cc in
       let left : bs ≡ rest = cc in
-      rw (← empty, ← left) (record { sound = (refl, tt); same = rw none refl; bytes = all })
+      exact-as empty left (record { sound = (refl, tt); same = rw none refl; bytes = all })
     back (suc n) bs row rest all e =
       went (step bs) _ row rest
       (λ a r₁ e₁. went (many step n r₁) _ row rest
@@ -143,7 +148,7 @@ row-inverse {A} step bytes-of P all-bytes one none some n = record { back = back
           let y = back n r₁ more r₂ (x .bytes) e₂ in
           let whole : a ∷ more ≡ row = cc in
           let left : r₂ ≡ rest = cc in
-          rw (← whole, ← left)
+          exact-as whole left
           (record {
             sound = (ap suc (y .sound .0), (x .sound, y .sound .1));
             same = rw (some a more) (append-assoc (bytes-of a) (all-bytes more) r₂ ∙ ap (λ r. bytes-of a ++ r) (y .same) ∙ x .same);
