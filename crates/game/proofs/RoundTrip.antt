@@ -1,18 +1,27 @@
 -- Reading and writing whole rules files are inverse, both ways round.
 use mathlib.Core.Path.{_≡_, refl, sym, ap, _∙_}
 use mathlib.Core.List.{List, [], _∷_, _++_, append-assoc, append-nil}
+use mathlib.Core.Bool.{Bool, true, false, cond}
 use Prim.Native.Nat.{ℕ, _^_, _<_, _≤_}
 use native.Mathlib.Omega.{arith}
-use lib.ListN.{length, take}
+use lib.Dec.{ltb}
+use lib.ListN.{length, getD}
 use lib.Seq.{take-all}
+use mir.Val.{Fits}
+use mir.Syntax.{w8}
 use Rattle.std.specs.shelf.Lists.{All}
-use Rattle.std.specs.declared.result.Result.{Result}
 use Rattle.std.specs.declared.result.Result.the-variants.{Ok, Err}
+use Rattle.std.proofs.shelf.Elements.{all-from-getD}
+use Rattle.std.proofs.shelf.Tests.{ltb-false}
+use Rattle.formula.specs.declared.scope.Scope.{Scope}
+use Rattle.formula.specs.declared.reading.Fault.the-variants.{Long}
+use Rattle.formula.specs.Reading.{scan}
+use Rattle.formula.proofs.Inverse.{no-fault}
 use Rattle.game.specs.declared.refusal.Refusal.{Refusal}
 use Rattle.game.specs.declared.widths.Widths.{Widths}
 use Rattle.game.specs.Content.{Content, Valid, Sound, file-of, with-length, with-lengths, two-bytes, move-scope, step-scope, state-scope}
 use Rattle.game.specs.Reading.{Step, part, refused, then, read-formula, read-formulas, read-widths, read-width, read-steps, read-group, read-start-group, read-end, rules-in}
-use Rattle.game.specs.Laws.{Byte, Rules-read-written, Rules-written-read}
+use Rattle.game.specs.Laws.{Byte, fitted, Rules-read-written, Rules-written-read}
 use Rattle.game.proofs.Rows.{no-refusal}
 use Rattle.game.proofs.Whole.{Triple, Few, contents, went, after-widths, at-widths, at-steps, at-promises, at-goals, at-starts}
 use Rattle.game.proofs.PartInverse.{Exact, exact-as, Inverse, Row, Group, width-inverse, formula-inverse, formulas-inverse, group-inverse, start-group-inverse}
@@ -150,3 +159,29 @@ written-read c v =
     ∙ at-starts n n (2 ^ c .state) w t (c .promises) (c .goals) starts (part (c .starts) []) refl refl
     (ap (read-start-group n (2 ^ c .state) 1 16) (sym (append-nil starts))
     ∙ start-group-inverse n (2 ^ c .state) 1 16 .forth (c .starts) [] ((v .some-start, v .few-starts), v .sound-starts))
+
+-- The same for what a reader of rules promises: `file` are the bytes of a slice.
+-- the bytes of a slice are bytes
+pub slice-bytes : (xs : List ℕ) → ((i : ℕ) → Fits w8 (getD xs i 0)) → All Byte xs
+slice-bytes xs h = all-from-getD Byte xs 0 (λ i _. h i .fits)
+
+-- what is valid and has these bytes is what was read
+pub only-one : (file : List ℕ) (c d : Content) → rules-in file ≡ part c [] → Valid d → file-of d ≡ file → c ≡ d
+only-one file c d e v same = let f : rules-in file ≡ part d [] = ap rules-in (sym same) ∙ written-read d v in cc
+
+-- nothing valid has bytes that are refused
+pub none-valid : (file : List ℕ) (r : Refusal) → rules-in file ≡ refused r → (d : Content) → Valid d → file-of d ≡ file → ⊥
+none-valid file r e d v same = no-refusal (sym e ∙ ap rules-in (sym same) ∙ written-read d v)
+
+-- a formula that is read has at most 255 bytes
+sound-short : (sc : Scope) (bs : List ℕ) → Sound sc bs → length bs ≤ 255
+sound-short sc bs = by (ltb 255 (length bs)) refl
+  where
+    by : (t : Bool) → ltb 255 (length bs) ≡ t → cond t (Err Long) (scan sc 0 1 bs) ≡ Ok tt → length bs ≤ 255
+    by true h e = absurd (no-fault Long e)
+    by false h e = omega (arith, ltb-false 255 (length bs) h)
+
+-- so valid rules are written as they are
+pub valid-fitted : (c : Content) → Valid c → fitted c ≡ c
+valid-fitted c v =
+    rw (take-all 255 (c .move-rule) (sound-short _ (c .move-rule) (v .sound-moves)), take-all 255 (c .answer-rule) (sound-short _ (c .answer-rule) (v .sound-answers))) refl
