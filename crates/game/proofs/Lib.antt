@@ -4,6 +4,7 @@ pub mod Whole
 pub mod Sections
 pub mod PartInverse
 pub mod RoundTrip
+pub mod Appending
 pub mod Descent
 pub mod Cycle
 pub mod Waiting

@@ -27,7 +27,7 @@ use Rattle.game.proofs.Whole.{Triple, Few, contents, went, after-widths, at-wi
 use Rattle.game.proofs.PartInverse.{Exact, exact-as, Inverse, Row, Group, width-inverse, formula-inverse, formulas-inverse, group-inverse, start-group-inverse}
 
 -- the counts of bits
-abbrev widths-bytes : Widths → List ℕ
+abbrev pub widths-bytes : Widths → List ℕ
 widths-bytes w = w .state ∷ w .moves ∷ w .answer ∷ []
 
 widths-inverse : (whole : ℕ) → Inverse (read-widths whole) widths-bytes Few
@@ -52,7 +52,7 @@ widths-inverse whole = record { back = back; forth = forth }
         width-inverse whole 6 .forth (w .moves) (w .answer ∷ rest) (f .moves), width-inverse whole 6 .forth (w .answer) rest (f .answer)) refl
 
 -- the rules of a step
-abbrev steps-bytes : Triple → List ℕ
+abbrev pub steps-bytes : Triple → List ℕ
 steps-bytes t = with-length (t .0) ++ (with-length (t .1) ++ with-lengths (t .2))
 
 record SoundSteps (w : Widths) (t : Triple) : Type 0 where
@@ -92,10 +92,10 @@ steps-inverse whole w = record { back = back; forth = forth }
         formulas-inverse whole (step-scope (w .state) (w .moves) (w .answer)) (w .state) .forth (t .2) rest (f .next)) refl
 
 -- the bytes of a group
-abbrev group-bytes : List (List ℕ) → List ℕ
+abbrev pub group-bytes : List (List ℕ) → List ℕ
 group-bytes fs = length fs ∷ with-lengths fs
 
-abbrev start-group-bytes : List ℕ → List ℕ
+abbrev pub start-group-bytes : List ℕ → List ℕ
 start-group-bytes ss = length ss ∷ two-bytes ss
 
 -- nothing was left at the end
@@ -104,7 +104,7 @@ ended whole a c [] e = (cc, refl)
 ended whole a c (b ∷ bs) e = no-refusal e
 
 -- the file, as the parts make it
-file-parts : (w : Widths) (t : Triple) (ps gs : List (List ℕ)) (ss : List ℕ) →
+pub file-parts : (w : Widths) (t : Triple) (ps gs : List (List ℕ)) (ss : List ℕ) →
     file-of (contents w t ps gs ss) ≡ widths-bytes w ++ (steps-bytes t ++ (group-bytes ps ++ (group-bytes gs ++ start-group-bytes ss)))
 file-parts w t ps gs ss = ap (λ r. widths-bytes w ++ r) (sym (three (with-length (t .0)) (with-length (t .1)) (with-lengths (t .2)) _))
 

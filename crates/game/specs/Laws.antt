@@ -34,10 +34,14 @@ fitted c =
       move-rule = take 255 (c .move-rule); answer-rule = take 255 (c .answer-rule); next = c .next;
       promises = c .promises; goals = c .goals; starts = c .starts }
 
--- these bytes stand behind what was there before; where memory is lacking, some of them may
+-- what was there before, and some bytes behind it
+abbrev pub Longer : List ℕ → List ℕ → Type 0
+Longer before after = (some : List ℕ) × (after ≡ before ++ some)
+
+-- these bytes stand behind what was there before; where memory is lacking, some bytes may
 abbrev pub Appended : {A E : Type 0} → List ℕ → List ℕ → Result A E → List ℕ → Type 0
 Appended before after (Ok _) bytes = after ≡ before ++ bytes
-Appended before after (Err _) bytes = (some : List ℕ) × (after ≡ before ++ some)
+Appended before after (Err _) bytes = Longer before after
 
 -- these bytes stand behind what was there before; where memory is lacking, none
 abbrev pub Written : {A E : Type 0} → List ℕ → List ℕ → Result A E → List ℕ → Type 0

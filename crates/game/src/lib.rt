@@ -6,3 +6,4 @@ mod section;
 mod steps;
 pub mod theorems;
 pub mod widths;
+mod writer;
