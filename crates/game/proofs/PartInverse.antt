@@ -55,7 +55,7 @@ tested-byte whole test P r to from =
         then (read-byte whole bs) (λ b rest. cond (test b) (part b rest) (refused (r bs))) ≡ part b rest → Exact (λ b. b ∷ []) P bs b rest
     back [] b rest all e = no-refusal e
     back (x ∷ bs) b rest all e =
-      passed (test x) x b bs rest (r (x ∷ bs)) (λ t same left. exact-as same left (record { sound = to x t; same = refl; bytes = all .1 })) e
+        passed (test x) x b bs rest (r (x ∷ bs)) (λ t same left. exact-as same left (record { sound = to x t; same = refl; bytes = all .1 })) e
 
 -- a count of bits
 pub width-inverse : (whole most : ℕ) → Inverse (read-width whole most) (λ b. b ∷ []) (λ b. b ≤ most)
@@ -84,20 +84,23 @@ formula-inverse whole sc = record { back = back; forth = forth }
     cut : (l : ℕ) (bs f rest : List ℕ) → All Byte bs → reading sc (take l bs) ≡ Ok tt → leb l (length bs) ≡ true → take l bs ≡ f → drop l bs ≡ rest →
         Exact with-length (Sound sc) (l ∷ bs) f rest
     cut l bs f rest all r t same left =
-      let long : length (take l bs) ≡ l = length-take-le l bs (leb-true l (length bs) t) in
-      exact-as same left
-      (record { sound = r; same = rw long (ap (λ xs. l ∷ xs) (take-append-drop l bs)); bytes = all-drop l bs all })
+        let long : length (take l bs) ≡ l = length-take-le l bs (leb-true l (length bs) t) in
+        exact-as same left
+        (record { sound = r; same = rw long (ap (λ xs. l ∷ xs) (take-append-drop l bs)); bytes = all-drop l bs all })
+
     judge : (l : ℕ) (bs f rest : List ℕ) (at : ℕ) → All Byte bs → (r : Result (Unit {0}) Fault) → reading sc (take l bs) ≡ r →
         judged whole at l bs r ≡ part f rest → Exact with-length (Sound sc) (l ∷ bs) f rest
     judge l bs f rest at all (Ok x) r e = passed (leb l (length bs)) (take l bs) f (drop l bs) rest _ (cut l bs f rest all r) e
     judge l bs f rest at all (Err x) r e = no-refusal e
+
     back : (bs f rest : List ℕ) → All Byte bs → read-formula whole sc bs ≡ part f rest → Exact with-length (Sound sc) bs f rest
     back [] f rest all e = no-refusal e
     back (l ∷ bs) f rest all e = judge l bs f rest _ (all .1) (reading sc (take l bs)) refl e
+
     forth : (f rest : List ℕ) → Sound sc f → read-formula whole sc (with-length f ++ rest) ≡ part f rest
     forth f rest s =
-      let room : leb (length f) (length (f ++ rest)) ≡ true = le-leb _ _ (simp length-append (omega arith)) in
-      rw (take-at f rest (length f) refl, s, room, drop-at f rest (length f) refl) (ap (λ x. part x rest) (take-at f rest (length f) refl))
+        let room : leb (length f) (length (f ++ rest)) ≡ true = le-leb _ _ (simp length-append (omega arith)) in
+        rw (take-at f rest (length f) refl, s, room, drop-at f rest (length f) refl) (ap (λ x. part x rest) (take-at f rest (length f) refl))
 
 -- a state of two bytes
 abbrev start-bytes : ℕ → List ℕ
@@ -112,16 +115,21 @@ start-inverse whole states = record { back = back; forth = forth }
     parted : (l k s : ℕ) (bs rest : List ℕ) → All Byte (l ∷ k ∷ bs) → ltb (l + 256 * k) states ≡ true → l + 256 * k ≡ s → bs ≡ rest →
         Exact start-bytes (λ s. s < states) (l ∷ k ∷ bs) s rest
     parted l k s bs rest all t same left =
-      let turn : l + 256 * k ≡ k * 256 + l = omega arith in
-      let low : s % 256 ≡ l = ap (λ n. n % 256) (sym same ∙ turn) ∙ mod-mul-add k 256 l (all .0) in
-      let high : s / 256 ≡ k = ap (λ n. n / 256) (sym same ∙ turn) ∙ div-mul-add k 256 l (all .0) in
-      record {
-        sound = omega (arith, ltb-true (l + 256 * k) states t); same = rw (low, high, ← left) refl; bytes = rw (← left) (all .1 .1) }
+        let turn : l + 256 * k ≡ k * 256 + l = omega arith in
+        let low : s % 256 ≡ l = ap (λ n. n % 256) (sym same ∙ turn) ∙ mod-mul-add k 256 l (all .0) in
+        let high : s / 256 ≡ k = ap (λ n. n / 256) (sym same ∙ turn) ∙ div-mul-add k 256 l (all .0) in
+        record {
+          sound = omega (arith, ltb-true (l + 256 * k) states t);
+          same = rw (low, high, ← left) refl;
+          bytes = rw (← left) (all .1 .1);
+        }
+
     back : (bs : List ℕ) (s : ℕ) (rest : List ℕ) → All Byte bs → read-start whole states bs ≡ part s rest → Exact start-bytes (λ s. s < states) bs s rest
     back [] s rest all e = no-refusal e
     back (l ∷ []) s rest all e = no-refusal e
     back (l ∷ (k ∷ bs)) s rest all e =
-      passed (ltb (l + 256 * k) states) (l + 256 * k) s bs rest _ (parted l k s bs rest all) e
+        passed (ltb (l + 256 * k) states) (l + 256 * k) s bs rest _ (parted l k s bs rest all) e
+
     forth : (s : ℕ) (rest : List ℕ) → s < states → read-start whole states (start-bytes s ++ rest) ≡ part s rest
     forth s rest h = rw (joined-bytes s, lt-ltb s states h) refl
 
@@ -137,30 +145,32 @@ row-inverse {A} step bytes-of P all-bytes one none some n = record { back = back
   where
     back : (n : ℕ) (bs : List ℕ) (row : List A) (rest : List ℕ) → All Byte bs → many step n bs ≡ part row rest → Exact all-bytes (Row P n) bs row rest
     back zero bs row rest all e =
-      let empty : [] ≡ row = cc in
-      let left : bs ≡ rest = cc in
-      exact-as empty left (record { sound = (refl, tt); same = rw none refl; bytes = all })
+        let empty : [] ≡ row = cc in
+        let left : bs ≡ rest = cc in
+        exact-as empty left (record { sound = (refl, tt); same = rw none refl; bytes = all })
     back (suc n) bs row rest all e =
-      went (step bs) _ row rest
-      (λ a r₁ e₁. went (many step n r₁) _ row rest
+        went (step bs) _ row rest
+        (λ a r₁ e₁. went (many step n r₁) _ row rest
         (λ more r₂ e₂ e₃.
-          let x = one .back bs a r₁ all e₁ in
-          let y = back n r₁ more r₂ (x .bytes) e₂ in
-          let whole : a ∷ more ≡ row = cc in
-          let left : r₂ ≡ rest = cc in
-          exact-as whole left
-          (record {
-            sound = (ap suc (y .sound .0), (x .sound, y .sound .1));
-            same = rw (some a more) (append-assoc (bytes-of a) (all-bytes more) r₂ ∙ ap (λ r. bytes-of a ++ r) (y .same) ∙ x .same);
-            bytes = y .bytes })))
-      e
+        let x = one .back bs a r₁ all e₁ in
+        let y = back n r₁ more r₂ (x .bytes) e₂ in
+        let whole : a ∷ more ≡ row = cc in
+        let left : r₂ ≡ rest = cc in
+        exact-as whole left
+        (record {
+          sound = (ap suc (y .sound .0), (x .sound, y .sound .1));
+          same = rw (some a more) (append-assoc (bytes-of a) (all-bytes more) r₂ ∙ ap (λ r. bytes-of a ++ r) (y .same) ∙ x .same);
+          bytes = y .bytes;
+        })))
+        e
+
     forth : (n : ℕ) (row : List A) (rest : List ℕ) → Row P n row → many step n (all-bytes row ++ rest) ≡ part row rest
     forth zero [] rest p = rw none refl
     forth zero (a ∷ row) rest p = absurd (omega (arith, p .0))
     forth (suc n) [] rest p = absurd (omega (arith, p .0))
     forth (suc n) (a ∷ row) rest p =
-      let fewer : length row ≡ n = omega (arith, p .0) in
-      rw (some a row, append-assoc (bytes-of a) (all-bytes row) rest, one .forth a (all-bytes row ++ rest) (p .1 .0), forth n row rest (fewer, p .1 .1)) refl
+        let fewer : length row ≡ n = omega (arith, p .0) in
+        rw (some a row, append-assoc (bytes-of a) (all-bytes row) rest, one .forth a (all-bytes row ++ rest) (p .1 .0), forth n row rest (fewer, p .1 .1)) refl
 
 -- formulas one after the other
 pub formulas-inverse : (whole : ℕ) (sc : Scope) (n : ℕ) → Inverse (many (read-formula whole sc) n) with-lengths (Row (Sound sc) n)
@@ -183,19 +193,21 @@ counted-inverse {A} whole least most step P all-bytes rows = record { back = bac
         then (read-count whole least most bs) (λ n rest. many step n rest) ≡ part row rest →
         Exact (λ row. length row ∷ all-bytes row) (Group P least most) bs row rest
     back bs row rest all e =
-      went (read-count whole least most bs) _ row rest
-      (λ n r₁ e₁ e₂.
+        went (read-count whole least most bs) _ row rest
+        (λ n r₁ e₁ e₂.
         let x = count-inverse whole least most .back bs n r₁ all e₁ in
         let y = rows n .back r₁ row rest (x .bytes) e₂ in
         record {
           sound = (rw (y .sound .0) (x .sound), y .sound .1);
           same = ap (λ r. length row ∷ r) (y .same) ∙ ap (λ k. k ∷ r₁) (y .sound .0) ∙ x .same;
-          bytes = y .bytes })
-      e
+          bytes = y .bytes;
+        })
+        e
+
     forth : (row : List A) (rest : List ℕ) → Group P least most row →
         then (read-count whole least most ((length row ∷ all-bytes row) ++ rest)) (λ n rest. many step n rest) ≡ part row rest
     forth row rest p =
-      rw (count-inverse whole least most .forth (length row) (all-bytes row ++ rest) (p .0), rows (length row) .forth row rest (refl, p .1)) refl
+        rw (count-inverse whole least most .forth (length row) (all-bytes row ++ rest) (p .0), rows (length row) .forth row rest (refl, p .1)) refl
 
 pub group-inverse : (whole : ℕ) (sc : Scope) (least most : ℕ) →
     Inverse (read-group whole sc least most) (λ fs. length fs ∷ with-lengths fs) (Group (Sound sc) least most)

@@ -35,7 +35,7 @@ widths-inverse whole = record { back = back; forth = forth }
   where
     back : (bs : List ℕ) (w : Widths) (rest : List ℕ) → All Byte bs → read-widths whole bs ≡ part w rest → Exact widths-bytes Few bs w rest
     back bs w rest all e =
-      went (read-width whole 12 bs) _ w rest (λ s r₁ e₁. went (read-width whole 6 r₁) _ w rest (λ m r₂ e₂. went (read-width whole 6 r₂) _ w rest (λ a r₃ e₃ e₄.
+        went (read-width whole 12 bs) _ w rest (λ s r₁ e₁. went (read-width whole 6 r₁) _ w rest (λ m r₂ e₂. went (read-width whole 6 r₂) _ w rest (λ a r₃ e₃ e₄.
         let x = width-inverse whole 12 .back bs s r₁ all e₁ in
         let y = width-inverse whole 6 .back r₁ m r₂ (x .bytes) e₂ in
         let z = width-inverse whole 6 .back r₂ a r₃ (y .bytes) e₃ in
@@ -45,11 +45,16 @@ widths-inverse whole = record { back = back; forth = forth }
         (record {
           sound = record { state = x .sound; moves = y .sound; answer = z .sound };
           same = ap (λ r. s ∷ m ∷ r) (z .same) ∙ ap (λ r. s ∷ r) (y .same) ∙ x .same;
-          bytes = z .bytes })))) e
+          bytes = z .bytes;
+        })))) e
+
     forth : (w : Widths) (rest : List ℕ) → Few w → read-widths whole (widths-bytes w ++ rest) ≡ part w rest
     forth w rest f =
-      rw (width-inverse whole 12 .forth (w .state) (w .moves ∷ w .answer ∷ rest) (f .state),
-        width-inverse whole 6 .forth (w .moves) (w .answer ∷ rest) (f .moves), width-inverse whole 6 .forth (w .answer) rest (f .answer)) refl
+        rw (
+          width-inverse whole 12 .forth (w .state) (w .moves ∷ w .answer ∷ rest) (f .state),
+          width-inverse whole 6 .forth (w .moves) (w .answer ∷ rest) (f .moves),
+          width-inverse whole 6 .forth (w .answer) rest (f .answer),
+        ) refl
 
 -- the rules of a step
 abbrev pub steps-bytes : Triple → List ℕ
@@ -69,10 +74,10 @@ steps-inverse whole w = record { back = back; forth = forth }
   where
     back : (bs : List ℕ) (t : Triple) (rest : List ℕ) → All Byte bs → read-steps whole w bs ≡ part t rest → Exact steps-bytes (SoundSteps w) bs t rest
     back bs t rest all e =
-      went (read-formula whole (move-scope (w .state) (w .moves)) bs) _ t rest
-      (λ m r₁ e₁. went (read-formula whole (step-scope (w .state) (w .moves) (w .answer)) r₁) _ t rest
-      (λ a r₂ e₂. went (read-formulas whole (step-scope (w .state) (w .moves) (w .answer)) (w .state) r₂) _ t rest
-      (λ next r₃ e₃ e₄.
+        went (read-formula whole (move-scope (w .state) (w .moves)) bs) _ t rest
+        (λ m r₁ e₁. went (read-formula whole (step-scope (w .state) (w .moves) (w .answer)) r₁) _ t rest
+        (λ a r₂ e₂. went (read-formulas whole (step-scope (w .state) (w .moves) (w .answer)) (w .state) r₂) _ t rest
+        (λ next r₃ e₃ e₄.
         let x = formula-inverse whole (move-scope (w .state) (w .moves)) .back bs m r₁ all e₁ in
         let y = formula-inverse whole (step-scope (w .state) (w .moves) (w .answer)) .back r₁ a r₂ (x .bytes) e₂ in
         let z = formulas-inverse whole (step-scope (w .state) (w .moves) (w .answer)) (w .state) .back r₂ next r₃ (y .bytes) e₃ in
@@ -82,14 +87,18 @@ steps-inverse whole w = record { back = back; forth = forth }
         (record {
           sound = record { moves = x .sound; answers = y .sound; next = z .sound };
           same = three (with-length m) (with-length a) (with-lengths next) r₃
-            ∙ ap (λ r. with-length m ++ (with-length a ++ r)) (z .same) ∙ ap (λ r. with-length m ++ r) (y .same) ∙ x .same;
-          bytes = z .bytes })))) e
+              ∙ ap (λ r. with-length m ++ (with-length a ++ r)) (z .same) ∙ ap (λ r. with-length m ++ r) (y .same) ∙ x .same;
+          bytes = z .bytes;
+        })))) e
+
     forth : (t : Triple) (rest : List ℕ) → SoundSteps w t → read-steps whole w (steps-bytes t ++ rest) ≡ part t rest
     forth t rest f =
-      ap (read-steps whole w) (three (with-length (t .0)) (with-length (t .1)) (with-lengths (t .2)) rest)
-      ∙ rw (formula-inverse whole (move-scope (w .state) (w .moves)) .forth (t .0) (with-length (t .1) ++ (with-lengths (t .2) ++ rest)) (f .moves),
-        formula-inverse whole (step-scope (w .state) (w .moves) (w .answer)) .forth (t .1) (with-lengths (t .2) ++ rest) (f .answers),
-        formulas-inverse whole (step-scope (w .state) (w .moves) (w .answer)) (w .state) .forth (t .2) rest (f .next)) refl
+        ap (read-steps whole w) (three (with-length (t .0)) (with-length (t .1)) (with-lengths (t .2)) rest)
+        ∙ rw (
+          formula-inverse whole (move-scope (w .state) (w .moves)) .forth (t .0) (with-length (t .1) ++ (with-lengths (t .2) ++ rest)) (f .moves),
+          formula-inverse whole (step-scope (w .state) (w .moves) (w .answer)) .forth (t .1) (with-lengths (t .2) ++ rest) (f .answers),
+          formulas-inverse whole (step-scope (w .state) (w .moves) (w .answer)) (w .state) .forth (t .2) rest (f .next),
+        ) refl
 
 -- the bytes of a group
 abbrev pub group-bytes : List (List ℕ) → List ℕ
@@ -117,26 +126,38 @@ read-written file c all e =
     went (read-group n (state-scope (w .state)) 0 8 r₂) _ c [] (λ ps r₃ e₃.
     went (read-group n (state-scope (w .state)) 1 8 r₃) _ c [] (λ gs r₄ e₄.
     went (read-start-group n (2 ^ w .state) 1 16 r₄) _ c [] (λ ss r₅ e₅ e₆.
-      let a = widths-inverse n .back file w r₁ all e₁ in
-      let b = steps-inverse n w .back r₁ t r₂ (a .bytes) e₂ in
-      let p = group-inverse n (state-scope (w .state)) 0 8 .back r₂ ps r₃ (b .bytes) e₃ in
-      let g = group-inverse n (state-scope (w .state)) 1 8 .back r₃ gs r₄ (p .bytes) e₄ in
-      let s = start-group-inverse n (2 ^ w .state) 1 16 .back r₄ ss r₅ (g .bytes) e₅ in
-      let z = ended n (contents w t ps gs ss) c r₅ e₆ in
-      let last : start-group-bytes ss ≡ r₄ = sym (append-nil (start-group-bytes ss)) ∙ ap (λ r. start-group-bytes ss ++ r) (sym (z .1)) ∙ s .same in
-      rw (← (z .0))
-      (record {
-        few-state = a .sound .state; few-moves = a .sound .moves; few-answer = a .sound .answer;
-        sound-moves = b .sound .moves; sound-answers = b .sound .answers; each-bit = b .sound .next .0; sound-next = b .sound .next .1;
-        few-promises = p .sound .0 .1; sound-promises = p .sound .1;
-        some-goal = g .sound .0 .0; few-goals = g .sound .0 .1; sound-goals = g .sound .1;
-        some-start = s .sound .0 .0; few-starts = s .sound .0 .1; sound-starts = s .sound .1 },
+    let a = widths-inverse n .back file w r₁ all e₁ in
+    let b = steps-inverse n w .back r₁ t r₂ (a .bytes) e₂ in
+    let p = group-inverse n (state-scope (w .state)) 0 8 .back r₂ ps r₃ (b .bytes) e₃ in
+    let g = group-inverse n (state-scope (w .state)) 1 8 .back r₃ gs r₄ (p .bytes) e₄ in
+    let s = start-group-inverse n (2 ^ w .state) 1 16 .back r₄ ss r₅ (g .bytes) e₅ in
+    let z = ended n (contents w t ps gs ss) c r₅ e₆ in
+    let last : start-group-bytes ss ≡ r₄ = sym (append-nil (start-group-bytes ss)) ∙ ap (λ r. start-group-bytes ss ++ r) (sym (z .1)) ∙ s .same in
+    rw (← (z .0)) (
+      record {
+        few-state = a .sound .state;
+        few-moves = a .sound .moves;
+        few-answer = a .sound .answer;
+        sound-moves = b .sound .moves;
+        sound-answers = b .sound .answers;
+        each-bit = b .sound .next .0;
+        sound-next = b .sound .next .1;
+        few-promises = p .sound .0 .1;
+        sound-promises = p .sound .1;
+        some-goal = g .sound .0 .0;
+        few-goals = g .sound .0 .1;
+        sound-goals = g .sound .1;
+        some-start = s .sound .0 .0;
+        few-starts = s .sound .0 .1;
+        sound-starts = s .sound .1;
+      },
       file-parts w t ps gs ss
-      ∙ ap (λ r. widths-bytes w ++ (steps-bytes t ++ (group-bytes ps ++ (group-bytes gs ++ r)))) last
-      ∙ ap (λ r. widths-bytes w ++ (steps-bytes t ++ (group-bytes ps ++ r))) (g .same)
-      ∙ ap (λ r. widths-bytes w ++ (steps-bytes t ++ r)) (p .same)
-      ∙ ap (λ r. widths-bytes w ++ r) (b .same)
-      ∙ a .same)))))) e
+          ∙ ap (λ r. widths-bytes w ++ (steps-bytes t ++ (group-bytes ps ++ (group-bytes gs ++ r)))) last
+          ∙ ap (λ r. widths-bytes w ++ (steps-bytes t ++ (group-bytes ps ++ r))) (g .same)
+          ∙ ap (λ r. widths-bytes w ++ (steps-bytes t ++ r)) (p .same)
+          ∙ ap (λ r. widths-bytes w ++ r) (b .same)
+          ∙ a .same,
+    )))))) e
 
 pub written-read : Rules-written-read
 written-read c v =

@@ -30,9 +30,16 @@ Rules-written-read = (c : Content) → Valid c → rules-in (file-of c) ≡ part
 abbrev pub fitted : Content → Content
 fitted c =
     record {
-      state = c .state; moves = c .moves; answer = c .answer;
-      move-rule = take 255 (c .move-rule); answer-rule = take 255 (c .answer-rule); next = c .next;
-      promises = c .promises; goals = c .goals; starts = c .starts }
+      state = c .state;
+      moves = c .moves;
+      answer = c .answer;
+      move-rule = take 255 (c .move-rule);
+      answer-rule = take 255 (c .answer-rule);
+      next = c .next;
+      promises = c .promises;
+      goals = c .goals;
+      starts = c .starts;
+    }
 
 -- what was there before, and some bytes behind it
 abbrev pub Longer : List ℕ → List ℕ → Type 0

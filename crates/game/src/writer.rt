@@ -52,11 +52,12 @@ fn write_rules(rules: &Rules<'_>, out: &mut Vec<u8>) -> Result<(), AllocError>
 fn write_widths(widths: Widths, out: &mut Vec<u8>) -> Result<(), AllocError>
     ensures { λ r. ⌜ Appended (vec-items (now (out .entry))) (vec-items (now (out .exit))) r (min (widths .state) 12 ∷ min (widths .moves) 6 ∷ min (widths .answer) 6 ∷ []) ⌝ }
 {
-    out.extend_from_slice(&[
+    let bits = [
         widths.state.min(STATE_BITS),
         widths.moves.min(MOVE_BITS),
         widths.answer.min(ANSWER_BITS),
-    ])
+    ];
+    out.extend_from_slice(&bits)
 }
 
 // The rules of a step.

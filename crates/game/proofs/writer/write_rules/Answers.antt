@@ -23,9 +23,11 @@ abbrev widths-of : Rules → List ℕ
 widths-of r = widths-bytes (widths-in r)
 
 abbrev steps-in : Rules → Triple
-steps-in r =
-    (take 255 (now (r .steps .moves .bytes)), take 255 (now (r .steps .answers .bytes)),
-    formulas-of (min (r .steps .next .count) 12) (now (r .steps .next .bytes)))
+steps-in r = (
+  take 255 (now (r .steps .moves .bytes)),
+  take 255 (now (r .steps .answers .bytes)),
+  formulas-of (min (r .steps .next .count) 12) (now (r .steps .next .bytes)),
+)
 
 abbrev formulas-in : Section → List (List ℕ)
 formulas-in s = formulas-of (s .count) (now (s .bytes))

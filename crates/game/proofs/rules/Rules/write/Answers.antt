@@ -13,7 +13,8 @@ returns-in-Ok c =
     let o = c .in-Ok .ensures tt in
     record {
       bytes = o;
-      valid = λ v. o ∙ ap (λ k. vec-items (c .args .out .now) ++ file-of k) (valid-fitted (content (c .args .self .now)) v) }
+      valid = λ v. o ∙ ap (λ k. vec-items (c .args .out .now) ++ file-of k) (valid-fitted (content (c .args .self .now)) v);
+    }
 
 pub returns-in-Err : need.returns-in-Err
 returns-in-Err c =
