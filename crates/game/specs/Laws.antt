@@ -2,7 +2,7 @@
 --   Byte                                     a number that one byte holds
 --   Rules-read-written, Rules-written-read   the two ways round
 --   fitted                                   rules as far as a length of one byte can say them
---   Appended, Written                        what a part of the writer promises, and the whole
+--   Longer, Appended, Written                what a part of the writer promises, and the whole
 use mathlib.Core.Path.{_≡_}
 use mathlib.Core.List.{List, [], _++_}
 use Prim.Native.Nat.{ℕ, _<_}
