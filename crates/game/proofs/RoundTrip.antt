@@ -2,7 +2,7 @@
 use mathlib.Core.Path.{_≡_, refl, sym, ap, _∙_}
 use mathlib.Core.List.{List, [], _∷_, _++_, append-assoc, append-nil}
 use mathlib.Core.Bool.{Bool, true, false, cond}
-use Prim.Native.Nat.{ℕ, _^_, _<_, _≤_}
+use Prim.Native.Nat.{ℕ, _^_, _≤_}
 use native.Mathlib.Omega.{arith}
 use lib.Dec.{ltb}
 use lib.ListN.{length, getD}
@@ -20,11 +20,11 @@ use Rattle.formula.proofs.Inverse.{no-fault}
 use Rattle.game.specs.declared.refusal.Refusal.{Refusal}
 use Rattle.game.specs.declared.widths.Widths.{Widths}
 use Rattle.game.specs.Content.{Content, Valid, Sound, file-of, with-length, with-lengths, two-bytes, move-scope, step-scope, state-scope}
-use Rattle.game.specs.Reading.{Step, part, refused, then, read-formula, read-formulas, read-widths, read-width, read-steps, read-group, read-start-group, read-end, rules-in}
+use Rattle.game.specs.Reading.{part, refused, read-formula, read-formulas, read-widths, read-width, read-steps, read-group, read-start-group, read-end, rules-in}
 use Rattle.game.specs.Laws.{Byte, fitted, Rules-read-written, Rules-written-read}
 use Rattle.game.proofs.Rows.{no-refusal}
 use Rattle.game.proofs.Whole.{Triple, Few, contents, went, after-widths, at-widths, at-steps, at-promises, at-goals, at-starts}
-use Rattle.game.proofs.PartInverse.{Exact, exact-as, Inverse, Row, Group, width-inverse, formula-inverse, formulas-inverse, group-inverse, start-group-inverse}
+use Rattle.game.proofs.PartInverse.{Exact, exact-as, Inverse, Row, width-inverse, formula-inverse, formulas-inverse, group-inverse, start-group-inverse}
 
 -- the counts of bits
 abbrev pub widths-bytes : Widths → List ℕ

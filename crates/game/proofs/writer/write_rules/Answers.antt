@@ -1,6 +1,6 @@
 -- Each exit by lack of memory, and the end: what the parts appended, one after the other.
 use mathlib.Core.Path.{sym}
-use mathlib.Core.List.{List, [], _∷_, _++_}
+use mathlib.Core.List.{List, _++_}
 use Prim.Native.Nat.{ℕ, min}
 use lib.ListN.{take}
 use denote.Ref.{now}

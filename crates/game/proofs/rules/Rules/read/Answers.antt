@@ -1,6 +1,5 @@
 -- Each exit, and the end: the parts that were read, one after the other, and then the one that was refused.
-use mathlib.Core.Path.{_≡_, refl, sym, ap, _∙_}
-use Prim.Native.Nat.{ℕ}
+use mathlib.Core.Path.{sym, ap, _∙_}
 use Rattle.std.proofs.shelf.Results.{err-from-errBy}
 use Rattle.game.specs.Content.{formulas-of, starts-of, steps-of}
 use Rattle.game.specs.Reading.{refused}
