@@ -4,5 +4,8 @@ pub mod refusal;
 pub mod rules;
 mod section;
 mod steps;
+#[cfg(test)]
+mod tests;
 pub mod theorems;
 pub mod widths;
+mod writer;
