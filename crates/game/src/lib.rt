@@ -4,8 +4,6 @@ pub mod refusal;
 pub mod rules;
 mod section;
 mod steps;
-#[cfg(test)]
-mod tests;
 pub mod theorems;
 pub mod widths;
 mod writer;
