@@ -3,6 +3,7 @@
 --   place-move, place-answer    where the entries of a move and of an answer stand
 --   move-below, answer-below    legal moves and allowed answers are in range
 --   after-below                 the state after is a state
+--   promises-is, goals-is       how many promises and goals there are
 use mathlib.Core.Path.{_≡_, refl, sym, ap, subst, _∙_}
 use mathlib.Core.Bool.{Bool, true, false, _&&_}
 use Prim.Native.Nat.{ℕ, _+_, _*_, _<_, _≤_}
@@ -53,3 +54,11 @@ answer-below a s e k h =
 pub after-below : (a : Arena) (s e k : ℕ) → arena-game a .after s e k < a .states
 unfolding arena-game
 after-below a s e k = a .«next_within» _
+
+pub promises-is : (a : Arena) → arena-game a .promises ≡ a .«promise_count»
+unfolding arena-game
+promises-is a = refl
+
+pub goals-is : (a : Arena) → arena-game a .goals ≡ a .«goal_count»
+unfolding arena-game
+goals-is a = refl

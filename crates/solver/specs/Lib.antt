@@ -1,0 +1,5 @@
+pub mod Fixpoint
+pub mod Region
+pub mod Reasons
+pub mod Sweep
+pub mod Stay

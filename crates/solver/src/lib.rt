@@ -1,0 +1,2 @@
+// The solver: three nested fixpoints, and the table and the counterstrategy that they give.
+pub mod inner;
