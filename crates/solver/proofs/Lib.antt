@@ -1,3 +1,5 @@
 pub mod Sweeps
 pub mod Stays
 pub mod Shrinks
+pub mod Ranks
+pub mod Rounds

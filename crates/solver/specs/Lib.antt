@@ -3,3 +3,4 @@ pub mod Region
 pub mod Reasons
 pub mod Sweep
 pub mod Stay
+pub mod Reach
