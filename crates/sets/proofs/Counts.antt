@@ -1,6 +1,7 @@
 -- The laws of `count`.
 --   count-most   at most n states are below n
 --   count-some   a set with a member below n is counted at least 1
+--   count-room   where a state below n is not in the set, the count is below n
 --   count-same   equal sets have equal counts
 --   count-in     putting one state in adds one
 --   count-out    taking one state out takes one away
@@ -31,6 +32,14 @@ count-some (suc n) X s l h =
     ⊎-elim
     (λ e. let at : unit (X n) ≡ 1 = ap unit (ap X (sym e) ∙ h) in omega arith)
     (λ ne. omega (arith, count-some n X s (omega arith) h)) (cases-eq s n)
+
+pub count-room : (n : ℕ) (X : Set) (s : ℕ) → s < n → X s ≡ false → count n X < n
+unfolding count
+count-room zero X s l h = absurd (omega arith)
+count-room (suc n) X s l h =
+    ⊎-elim
+    (λ e. let here : unit (X n) ≡ 0 = ap unit (ap X (sym e) ∙ h) in omega (arith, count-most n X))
+    (λ ne. omega (arith, one (X n), count-room n X s (omega arith) h)) (cases-eq s n)
 
 pub count-same : (n : ℕ) (X Y : Set) → ((s : ℕ) → s < n → X s ≡ Y s) → count n X ≡ count n Y
 unfolding count

@@ -3,3 +3,5 @@ pub mod Stays
 pub mod Shrinks
 pub mod Ranks
 pub mod Rounds
+pub mod Enters
+pub mod Rows

@@ -10,7 +10,6 @@ use Prim.Native.Nat.{ℕ, _+_, _<_, _≤_}
 use native.Mathlib.Omega.{arith}
 use borrow.Author.Tests.{clash, both-ways}
 use Rattle.std.proofs.shelf.Tests.{cases-bool, cases-lt, cases-eq}
-use Rattle.std.specs.Orderings.{Decides}
 use Rattle.game.specs.Game.{Game}
 use Rattle.sets.specs.Member.{Set, In, Within, member, room}
 use Rattle.sets.proofs.Members.{member-below}
@@ -18,13 +17,9 @@ use Rattle.solver.specs.Fixpoint.{Kept, Greatest}
 use Rattle.solver.specs.Region.{Base, Waiting, Inner}
 use Rattle.solver.specs.Reasons.{Later, cell, row}
 use Rattle.solver.specs.Stay.{Stayed}
-use Rattle.solver.specs.Reach.{New, Old, Entered, Ranked, Settled, Rounded}
+use Rattle.solver.specs.Reach.{New, Old, Entered, Ranked, Settled, Rounded, IsBase}
 use Rattle.solver.proofs.Stays.{inner-mono, waiting-mono}
 use Rattle.solver.proofs.Ranks.{grounded, ranked-enter, grows}
-
--- F is where Z has the base fact over Y
-abbrev pub IsBase : Game → Set → ℕ → Set → Set → Type 0
-IsBase g Z j Y F = (s : ℕ) → Decides (F s) ((Z s ≡ true) × Base g Z j Y s)
 
 pub entered-some : (n : ℕ) (found reach ranks waits : List ℕ) (rank wait : ℕ) (reach′ ranks′ waits′ : List ℕ) (next : ℕ) →
     room found ≡ n → Entered n found reach ranks waits rank wait n reach′ ranks′ waits′ next →
@@ -174,3 +169,11 @@ module _ (g : Game) (n : ℕ) (Z : Set) (j : ℕ) (base reach₀ turns₀ : List
              subst (λ (x : ℕ). row turns′ n x s ≡ row turns₀ n x s) (sym p)
              (here s m ∙ (st .outside s z ∙ (was s m ∙ inv .outside i s (subst (λ (x : ℕ). x < g .promises) p l) m z))))
           (λ ne. there k s ne m ∙ inv .outside k s l m z) (cases-eq k i) }
+
+-- What the loop over the promises keeps: from whatever the round began with, what holds after the base holds on. (A
+-- loop's invariant cannot name what the slices held when the function began, only where the loop did.)
+pub record Rounding (g : Game) (n : ℕ) (Z : Set) (j : ℕ) (base turns₀ : List ℕ) (next : ℕ) (reach₁ ranks₁ waits₁ : List ℕ) (rank₁ : ℕ)
+  (i : ℕ) (reach ranks waits turns : List ℕ) (rank : ℕ) : Type 0 where
+  pub on : (reach₀ : List ℕ) → IsBase g Z j (member reach₀) (member base) →
+      Rounded g n Z j reach₀ turns₀ next 0 reach₁ ranks₁ waits₁ turns₀ rank₁ →
+      Rounded g n Z j reach₀ turns₀ next i reach ranks waits turns rank

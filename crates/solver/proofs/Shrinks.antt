@@ -20,6 +20,11 @@ pub along3 : {A B C : Type 0} (P : A → B → C → Type 0) {a a′ : A} {b b�
 along3 P {a} {a′} {b} {b′} {k} {k′} ea eb ek p =
     subst (λ x. P x b k) (sym ea) (subst (λ x. P a′ x k) (sym eb) (subst (λ x. P a′ b′ x) (sym ek) p))
 
+pub along4 : {A B C D : Type 0} (P : A → B → C → D → Type 0) {a a′ : A} {b b′ : B} {k k′ : C} {d d′ : D} →
+    a ≡ a′ → b ≡ b′ → k ≡ k′ → d ≡ d′ → P a′ b′ k′ d′ → P a b k d
+along4 P {a} {a′} {b} {b′} {k} {k′} {d} {d′} ea eb ek ed p =
+    along3 (λ x y z. P x y z d) ea eb ek (subst (λ x. P a′ b′ k′ x) (sym ed) p)
+
 pub along2 : {A B : Type 0} (P : A → B → Type 0) {a a′ : A} {b b′ : B} → a ≡ a′ → b ≡ b′ → P a′ b′ → P a b
 along2 P {a} {a′} {b} {b′} ea eb p = subst (λ x. P x b) (sym ea) (subst (λ x. P a′ x) (sym eb) p)
 

@@ -1,4 +1,7 @@
 -- What the middle loop and its rounds do. Assumes nothing.
+--   Hit, Onto  where the goal is reached; the base, from such a set
+--   Grounded   each state reached is in the base
+--   IsBase     a set is the base
 --   New, Old   a state that was found and is new; one that is not
 --   Entered    the pass that enters what was found
 --   Ranked     the ranks of the states reached so far make progress
@@ -10,14 +13,31 @@ use mathlib.Core.Path.{_≡_}
 use mathlib.Core.Bool.{true, false}
 use mathlib.Core.List.{List}
 use Prim.Native.Nat.{ℕ, _+_, _<_, _≤_}
+use Rattle.std.specs.Orderings.{Decides}
 use Rattle.game.specs.Game.{Game}
 use Rattle.sets.specs.Count.{count}
 use Rattle.sets.specs.Member.{Set, In, Within, member}
 use Rattle.sets.specs.Step.{Cpre}
 use Rattle.solver.specs.Fixpoint.{Kept, Closed, Least}
-use Rattle.solver.specs.Region.{Base, Waiting, Inner, Middle}
+use Rattle.solver.specs.Region.{Reached, Base, Waiting, Inner, Middle}
 use Rattle.solver.specs.Reasons.{Fine, Later, cell, row}
 use Rattle.solver.specs.Sweep.{Marked}
+
+-- s is in Z, and goal j is reached there
+abbrev pub Hit : Game → Set → ℕ → ℕ → Type 0
+Hit g Z j s = (Z s ≡ true) × Reached g Z j s
+
+-- s is in H, or in Z with the controller able to make sure to be in Y after the step
+abbrev pub Onto : Game → Set → Set → Set → ℕ → Type 0
+Onto g Z H Y s = (H s ≡ true) ⊎ ((Z s ≡ true) × Cpre g (In Y) s)
+
+-- each state of Y is in that base over Y
+abbrev pub Grounded : Game → Set → Set → Set → Type 0
+Grounded g Z H Y = (s : ℕ) → Y s ≡ true → Onto g Z H Y s
+
+-- F is where Z has the base fact over Y
+abbrev pub IsBase : Game → Set → ℕ → Set → Set → Type 0
+IsBase g Z j Y F = (s : ℕ) → Decides (F s) ((Z s ≡ true) × Base g Z j Y s)
 
 -- s is in X and not in Y
 abbrev pub New : Set → Set → ℕ → Type 0

@@ -1,2 +1,3 @@
 // The solver: three nested fixpoints, and the table and the counterstrategy that they give.
 pub mod inner;
+pub mod middle;
