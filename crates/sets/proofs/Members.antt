@@ -8,10 +8,10 @@ use mathlib.Core.Logic.{_⊎_, inl, inr, ⊎-elim}
 use Prim.Native.Nat.{ℕ, _<_, _≤_}
 use native.Mathlib.Omega.{arith}
 use lib.Dec.{eqb}
-use lib.ListN.{length, getD, set, length-set}
+use lib.ListN.{length, getD, set, length-set, replicate}
 use mir.Val.{boolByte}
 use borrow.Author.Tests.{eqb-true, eqb-false, eq-eqb, ne-eqb}
-use Rattle.std.proofs.shelf.Lists.{getD-set-same, getD-set-other, getD-past}
+use Rattle.std.proofs.shelf.Lists.{getD-set-same, getD-set-other, getD-past, getD-replicate}
 use Rattle.std.proofs.shelf.Tests.{cases-eq, cases-lt}
 use Rattle.game.specs.Game.{pick}
 use Rattle.sets.specs.Member.{member, room, Put}
@@ -35,3 +35,7 @@ pub member-below : (cells : List ℕ) (s : ℕ) → member cells s ≡ true → 
 unfolding member
 member-below cells s h =
     ⊎-elim (λ l. l) (λ l. absurd (let e : getD cells s 0 ≡ 0 = getD-past cells s 0 l in omega (arith, eqb-true (getD cells s 0) 1 h))) (cases-lt s (length cells))
+
+pub member-filled : (cells : List ℕ) (n : ℕ) (b : Bool) → cells ≡ replicate n (boolByte b) → (t : ℕ) → t < n → member cells t ≡ b
+unfolding member
+member-filled cells n b e t l = ap (λ (x : List ℕ). eqb (getD x t 0) 1) e ∙ (ap (λ (v : ℕ). eqb v 1) (getD-replicate n t (boolByte b) 0 l) ∙ byte-is b)

@@ -3,10 +3,11 @@
 --   member       whether a state is in the set that the cells hold
 --   room         how many states the cells can hold
 --   Put          one set from another, by putting a state in or taking it out
+--   Filled       every state put in, or taken out
 use mathlib.Core.Path.{_≡_}
 use mathlib.Core.Bool.{Bool, true, false}
 use mathlib.Core.List.{List}
-use Prim.Native.Nat.{ℕ}
+use Prim.Native.Nat.{ℕ, _<_}
 use lib.Dec.{eqb}
 use lib.ListN.{length, getD}
 use Rattle.game.specs.Game.{pick}
@@ -31,3 +32,7 @@ room cells = length cells
 -- the cells `after` hold what `before` held, but s is in the set exactly if `inside` is true
 abbrev pub Put : List ℕ → ℕ → Bool → List ℕ → Type 0
 Put before s inside after = (room after ≡ room before) × ((t : ℕ) → member after t ≡ pick (eqb t s) inside (member before t))
+
+-- every state that the cells have room for is in the set, or none is
+abbrev pub Filled : List ℕ → Bool → List ℕ → Type 0
+Filled before inside after = (room after ≡ room before) × ((t : ℕ) → t < room after → member after t ≡ inside)

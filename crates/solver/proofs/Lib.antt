@@ -5,3 +5,4 @@ pub mod Ranks
 pub mod Rounds
 pub mod Enters
 pub mod Rows
+pub mod Attains

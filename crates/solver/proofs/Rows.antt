@@ -11,10 +11,13 @@ use native.Mathlib.Omega.{arith}
 use native.Mathlib.Nat.{suc-mul}
 use borrow.Author.Needs.{needs}
 use borrow.Rule.Slice.PartMut.{putMid}
-use lib.ListN.{length, getD, take, drop}
+use lib.ListN.{length, getD, take, drop, replicate}
 use Rattle.std.proofs.shelf.Bits.{mul-le}
-use Rattle.std.proofs.shelf.Lists.{places, getD-take, getD-drop, length-take-le, length-drop}
-use Rattle.std.proofs.shelf.Tests.{cases-lt}
+use Rattle.std.proofs.shelf.Lists.{places, getD-take, getD-drop, getD-replicate, getD-past, length-take-le, length-drop, length-replicate}
+use Rattle.std.proofs.shelf.Tests.{cases-lt, cases-bool}
+use mathlib.Core.Bool.{false}
+use Rattle.sets.specs.Member.{member, room, Filled}
+use Rattle.sets.proofs.Members.{member-below}
 use Rattle.solver.specs.Reasons.{cell, row}
 
 -- two rows of n entries do not overlap
@@ -42,3 +45,15 @@ row-there xs part n i k s e q len fits ne l = go (cases-lt k i)
     go : (k < i) ⊎ (i ≤ k) → row (putMid (i * n) e xs part) n k s ≡ row xs n k s
     go (inl lt) = let far : k * n + n ≤ i * n = apart n k i lt in search (needs, places)
     go (inr le) = let far : i * n + n ≤ k * n = apart n i k (omega arith) in search (needs, places)
+
+pub cell-zeros : (xs : List ℕ) (n s : ℕ) → xs ≡ replicate n 0 → cell xs s ≡ 0
+cell-zeros xs n s e =
+    ap (λ (l : List ℕ). cell l s) e
+    ∙ ⊎-elim (λ l. getD-replicate n s 0 0 l)
+      (λ l. getD-past (replicate n 0) s 0 (omega (arith, length-replicate {A = ℕ} n 0))) (cases-lt s n)
+
+-- a set from which every state was taken out
+pub filled-none : (before after : List ℕ) → Filled before false after → (s : ℕ) → member after s ≡ false
+filled-none before after f s =
+    ⊎-elim (λ l. f .1 s l)
+    (λ l. ⊎-elim (λ t. absurd (omega (arith, member-below after s t))) (λ t. t) (cases-bool (member after s))) (cases-lt s (room after))

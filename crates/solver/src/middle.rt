@@ -13,7 +13,7 @@ ghost use Rattle.solver.specs.Sweep.{Decided};
 ghost use Rattle.std.specs.Orderings.{Decides, When};
 use super::inner::wait_within;
 use sets::arena::Arena;
-use sets::set::{has, put};
+use sets::set::{fill, has, put};
 
 // What a rank that waits for no promise has in place of a promise's number.
 pub const NONE: u8 = 8;
@@ -133,4 +133,34 @@ fn round(arena: Arena<'_>, zone: &[u8], j: usize, base: &[u8], reach: &mut [u8],
         rank = enter(arena, stay, reach, ranks, waits, rank, i as u8);
     }
     rank
+}
+
+// Leaves in `reach` the least set of states of the zone from which goal `j` can be reached, with their ranks and the
+// promises waited for; and in `turns`, for each promise, when the inner loop took each other state of the zone out.
+pub fn attain(arena: Arena<'_>, zone: &[u8], j: usize, hits: &mut [u8], base: &mut [u8], reach: &mut [u8], stay: &mut [u8], before: &mut [u8], ranks: &mut [u16], waits: &mut [u8], turns: &mut [u16])
+    requires goal { ⌜ j < arena .«goal_count» ⌝ }
+    requires zone { ⌜ room (now zone) ≡ arena .states ⌝ }
+    requires hits { ⌜ room (now hits) ≡ arena .states ⌝ }
+    requires base { ⌜ room (now base) ≡ arena .states ⌝ }
+    requires reach { ⌜ room (now reach) ≡ arena .states ⌝ }
+    requires stay { ⌜ room (now stay) ≡ arena .states ⌝ }
+    requires before { ⌜ room (now before) ≡ arena .states ⌝ }
+    requires ranks { ⌜ length (now ranks) ≡ arena .states ⌝ }
+    requires waits { ⌜ length (now waits) ≡ arena .states ⌝ }
+    requires turns { ⌜ arena .«promise_count» * arena .states ≤ length (now turns) ⌝ }
+    ensures { λ _. ⌜ Attained (arena-game (arena .entry)) (arena .entry .states) (member (now (zone .entry))) j (member (now (reach .exit))) (cell (now (ranks .exit))) (cell (now (waits .exit))) (now (turns .entry)) (now (turns .exit)) ⌝ }
+{
+    find_hits(arena, zone, j, hits);
+    fill(reach, false);
+    ranks.fill(0);
+    waits.fill(0);
+    let mut next = 0;
+    'middle: loop {
+        find_base(arena, zone, hits, reach, base);
+        let rank = round(arena, zone, j, base, reach, stay, before, ranks, waits, turns, next);
+        if rank == next {
+            break 'middle;
+        }
+        next = rank;
+    }
 }
