@@ -45,6 +45,7 @@ module _ (g : Game) (n : ℕ) (Z : Set) (j : ℕ) (H : Set) (zone-below : (s : �
 pub record Attaining (g : Game) (n : ℕ) (Z : Set) (j : ℕ) (turns₀ reach ranks waits turns : List ℕ) (next : ℕ) : Type 0 where
   pub ranked : Ranked g n Z j (member reach) (cell ranks) (cell waits) next
   pub outside : (i s : ℕ) → i < g .promises → s < n → Z s ≡ false → row turns n i s ≡ row turns₀ n i s
+  pub beyond : (i s : ℕ) → g .promises ≤ i → s < n → row turns n i s ≡ row turns₀ n i s
 
 module _ (g : Game) (n : ℕ) (Z : Set) (j : ℕ) (turns₀ reach ranks waits turns : List ℕ) (next : ℕ)
   (inv : Attaining g n Z j turns₀ reach ranks waits turns next) (k : ℕ) (all : k ≡ g .promises)
@@ -53,7 +54,10 @@ module _ (g : Game) (n : ℕ) (Z : Set) (j : ℕ) (turns₀ reach ranks waits tu
 
   pub attaining-more : Attaining g n Z j turns₀ reach′ ranks′ waits′ turns′ next′
   attaining-more =
-      record { ranked = r .ranked; outside = λ i s l m z. r .outside i s l m z ∙ inv .outside i s l m z }
+      record {
+        ranked = r .ranked;
+        outside = λ i s l m z. r .outside i s l m z ∙ inv .outside i s l m z;
+        beyond = λ i s l m. r .beyond i s l m ∙ inv .beyond i s l m }
 
   pub attained : next′ ≡ next → Attained g n Z j (member reach′) (cell ranks′) (cell waits′) turns₀ turns′
   attained q =
@@ -64,7 +68,8 @@ module _ (g : Game) (n : ℕ) (Z : Set) (j : ℕ) (turns₀ reach ranks waits tu
         unused = r .ranked .unused;
         base = done .base;
         turned = done .turned;
-        outside = attaining-more .outside }
+        outside = attaining-more .outside;
+        beyond = attaining-more .beyond }
     where
       done : Settled g n Z j (member reach′) turns′ (g .promises)
       done =

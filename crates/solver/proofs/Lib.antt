@@ -6,3 +6,6 @@ pub mod Rounds
 pub mod Enters
 pub mod Rows
 pub mod Attains
+pub mod Layers
+pub mod Drops
+pub mod Passes

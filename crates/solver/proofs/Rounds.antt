@@ -64,7 +64,8 @@ rounded-base g n Z j base reach ranks waits turns next wait reach′ ranks′ wa
           base = λ s z b. entered-none n base reach ranks waits next wait reach′ ranks′ waits′ next′ fits e q s (is s .1 (z, b));
           stays = λ i l. absurd (omega arith);
           turned = λ i s l. absurd (omega arith) };
-      outside = λ i s l m z. refl }
+      outside = λ i s l m z. refl;
+      beyond = λ i s l m. refl }
   where
     kept : Kept (Inner g Z (Base g Z j (member reach)) wait) (member base)
     kept s f = let p = is s .0 f in (p .0, inl (p .1))
@@ -74,6 +75,7 @@ rounded-base g n Z j base reach ranks waits turns next wait reach′ ranks′ wa
 
 -- one more promise: `stay` is what waits for it, T its row of turns before and T′ after
 module _ (g : Game) (n : ℕ) (Z : Set) (j : ℕ) (base reach₀ turns₀ : List ℕ) (next i : ℕ) (reach ranks waits turns : List ℕ) (rank : ℕ)
+  (a-promise : i < g .promises)
   (zone-below : (s : ℕ) → Z s ≡ true → s < n)
   (is : IsBase g Z j (member reach₀) (member base))
   (inv : Rounded g n Z j reach₀ turns₀ next i reach ranks waits turns rank)
@@ -168,7 +170,8 @@ module _ (g : Game) (n : ℕ) (Z : Set) (j : ℕ) (base reach₀ turns₀ : List
           (λ p.
              subst (λ (x : ℕ). row turns′ n x s ≡ row turns₀ n x s) (sym p)
              (here s m ∙ (st .outside s z ∙ (was s m ∙ inv .outside i s (subst (λ (x : ℕ). x < g .promises) p l) m z))))
-          (λ ne. there k s ne m ∙ inv .outside k s l m z) (cases-eq k i) }
+          (λ ne. there k s ne m ∙ inv .outside k s l m z) (cases-eq k i);
+        beyond = λ k s l m. there k s (λ p. omega arith) m ∙ inv .beyond k s l m }
 
 -- What the loop over the promises keeps: from whatever the round began with, what holds after the base holds on. (A
 -- loop's invariant cannot name what the slices held when the function began, only where the loop did.)

@@ -4,3 +4,4 @@ pub mod Reasons
 pub mod Sweep
 pub mod Stay
 pub mod Reach
+pub mod Settle

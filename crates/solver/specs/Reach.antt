@@ -75,7 +75,7 @@ pub record Settled (g : Game) (n : ℕ) (Z : Set) (j : ℕ) (Y : Set) (turns : L
   pub turned : (i s : ℕ) → i < upto → Z s ≡ true → Y s ≡ false → Waiting g i (Later Z Y (row turns n i) (row turns n i s)) s → ⊥
 
 -- One round, for the promises below `upto`: what is reached is ranked and has all that was reached before; and if no rank
--- was given, nothing changed and all is settled. The turns of states outside Z are as they were.
+-- was given, nothing changed and all is settled. The turns of states outside Z, and rows that are no promise's, are as they were.
 pub record Rounded (g : Game) (n : ℕ) (Z : Set) (j : ℕ) (reach turns : List ℕ) (next upto : ℕ) (reach′ ranks′ waits′ turns′ : List ℕ) (next′ : ℕ) : Type 0 where
   pub ranked : Ranked g n Z j (member reach′) (cell ranks′) (cell waits′) next′
   pub began : Within (member reach) (member reach′)
@@ -83,9 +83,10 @@ pub record Rounded (g : Game) (n : ℕ) (Z : Set) (j : ℕ) (reach turns : List 
   pub same : next′ ≡ next → reach′ ≡ reach
   pub settled : next′ ≡ next → Settled g n Z j (member reach) turns′ upto
   pub outside : (i s : ℕ) → i < g .promises → s < n → Z s ≡ false → row turns′ n i s ≡ row turns n i s
+  pub beyond : (i s : ℕ) → g .promises ≤ i → s < n → row turns′ n i s ≡ row turns n i s
 
 -- The loop's end: Y is the least set that is closed under the middle step, ranked, with turns that say why no other
--- state of Z is in it. The turns of states outside Z are as they were.
+-- state of Z is in it. The turns of states outside Z, and rows that are no promise's, are as they were.
 pub record Attained (g : Game) (n : ℕ) (Z : Set) (j : ℕ) (Y : Set) (R W : ℕ → ℕ) (turns turns′ : List ℕ) : Type 0 where
   pub least : Least (Middle g Z j) Y
   pub inside : Within Y Z
@@ -94,3 +95,4 @@ pub record Attained (g : Game) (n : ℕ) (Z : Set) (j : ℕ) (Y : Set) (R W : �
   pub base : (s : ℕ) → Z s ≡ true → Base g Z j Y s → Y s ≡ true
   pub turned : (i s : ℕ) → i < g .promises → Z s ≡ true → Y s ≡ false → Waiting g i (Later Z Y (row turns′ n i) (row turns′ n i s)) s → ⊥
   pub outside : (i s : ℕ) → i < g .promises → s < n → Z s ≡ false → row turns′ n i s ≡ row turns n i s
+  pub beyond : (i s : ℕ) → g .promises ≤ i → s < n → row turns′ n i s ≡ row turns n i s

@@ -4,7 +4,7 @@
 --   Later       the states of Z that the inner loop had not yet taken out at a turn
 --   cell, row   an entry of a list; an entry of a row, where the list holds rows of equal length
 --   winning, losing   the table and the counterstrategy read off the loops' results
---   Free        a next state that a counterstrategy may be brought to
+--   Free, Barred   a next state that a counterstrategy may be brought to; one that it may not
 use mathlib.Core.Logic.{_⊎_}
 use mathlib.Core.Path.{_≡_}
 use mathlib.Core.Bool.{Bool, true, false, not, _&&_}
@@ -50,3 +50,7 @@ losing n Z layer avoid move rank =
 -- the counterstrategy c, going for promise i, knows t and descends from s to it
 abbrev pub Free : Game → Counterstrategy → ℕ → ℕ → ℕ → Type 0
 Free g c i s t = (c .known t ≡ true) × Descends g c i s t
+
+-- t is no such state, for the counterstrategy of these layers, goals kept away from and ranks; its moves do not matter
+abbrev pub Barred : Game → ℕ → Set → (ℕ → ℕ) → (ℕ → ℕ) → (ℕ → ℕ → ℕ) → ℕ → ℕ → ℕ → Type 0
+Barred g n Z L A T i s t = Free g (losing n Z L A (λ _ _. 0) T) i s t → ⊥

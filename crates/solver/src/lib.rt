@@ -1,3 +1,4 @@
 // The solver: three nested fixpoints, and the table and the counterstrategy that they give.
 pub mod inner;
 pub mod middle;
+pub mod outer;

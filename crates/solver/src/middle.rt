@@ -104,7 +104,7 @@ fn enter(arena: Arena<'_>, found: &[u8], reach: &mut [u8], ranks: &mut [u16], wa
 }
 
 // Whether the state `s` was found and is new.
-fn is_new(found: &[u8], reach: &[u8], s: usize) -> bool
+pub fn is_new(found: &[u8], reach: &[u8], s: usize) -> bool
     requires found { ⌜ s < room (now found) ⌝ }
     requires reach { ⌜ s < room (now reach) ⌝ }
     ensures { λ r. ⌜ When r (New (member (now (found .entry))) (member (now (reach .entry))) s) (Old (member (now (found .entry))) (member (now (reach .entry))) s) ⌝ }

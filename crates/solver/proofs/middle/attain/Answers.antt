@@ -24,7 +24,8 @@ middle-holds c =
       ranked =
         ranked-none _ _ _ _ _ _ _ (filled-none _ _ (c .fill .ensures))
         (λ s. (cell-zeros _ _ s (c .fill-2 .ensures .after (λ y h. h)), cell-zeros _ _ s (c .fill-3 .ensures .after (λ y h. h))));
-      outside = λ i s l m z. refl }
+      outside = λ i s l m z. refl;
+      beyond = λ i s l m. refl }
 
 pub find-base-requires : need.find-base-requires
 find-base-requires c κs =

@@ -28,7 +28,7 @@ loop-i-again c =
       c .wait-within .kept .turns ∙ part-length _ _ _ _ (omega arith) fits in
     record {
       on = λ r is h.
-        rounded-more _ _ _ _ _ r _ _ _ _ _ _ _ _ (λ s z. omega (arith, member-below (c .args .zone .now) s z)) is (c .loop-i .inv .on r is h)
+        rounded-more _ _ _ _ _ r _ _ _ _ _ _ _ _ (omega (arith, promises-is (c .args .arena))) (λ s z. omega (arith, member-below (c .args .zone .now) s z)) is (c .loop-i .inv .on r is h)
         (c .wait-within .last .stay) (omega arith) _ _ (c .wait-within .ensures) _
         (λ s l. row-part _ _ _ s _ (omega arith) l)
         (λ s l. row-here _ _ _ _ s _ part fits l)
