@@ -61,3 +61,38 @@ fn pass(arena: Arena<'_>, zone: &mut [u8], hits: &mut [u8], base: &mut [u8], rea
     }
     next
 }
+
+// Leaves in `zone` the winning region; for each goal the ranks of its states and the promises waited for; for every
+// other state a layer, the goal to be kept away from, and for each promise the turn at which it was taken out. Returns
+// how many rounds it took, the last one, which drops nothing, included.
+pub fn settle(arena: Arena<'_>, zone: &mut [u8], hits: &mut [u8], base: &mut [u8], reach: &mut [u8], stay: &mut [u8], before: &mut [u8], layers: &mut [u16], avoids: &mut [u8], ranks: &mut [u16], waits: &mut [u8], turns: &mut [u16]) -> u32
+    requires zone { ⌜ room (now zone) ≡ arena .states ⌝ }
+    requires hits { ⌜ room (now hits) ≡ arena .states ⌝ }
+    requires base { ⌜ room (now base) ≡ arena .states ⌝ }
+    requires reach { ⌜ room (now reach) ≡ arena .states ⌝ }
+    requires stay { ⌜ room (now stay) ≡ arena .states ⌝ }
+    requires before { ⌜ room (now before) ≡ arena .states ⌝ }
+    requires layers { ⌜ length (now layers) ≡ arena .states ⌝ }
+    requires avoids { ⌜ length (now avoids) ≡ arena .states ⌝ }
+    requires ranks { ⌜ length (now ranks) ≡ arena .«goal_count» * arena .states ⌝ }
+    requires waits { ⌜ length (now waits) ≡ arena .«goal_count» * arena .states ⌝ }
+    requires turns { ⌜ arena .«promise_count» * arena .states ≤ length (now turns) ⌝ }
+    ensures solved { λ r. ⌜ Solved (arena-game (arena .entry)) (arena .entry .states) (now (zone .exit)) (now (layers .exit)) (now (avoids .exit)) (now (ranks .exit)) (now (waits .exit)) (now (turns .exit)) ⌝ }
+    ensures rounds { λ r. ⌜ 0 < r ⌝ ∗ ⌜ r ≤ arena .entry .states + 1 ⌝ }
+{
+    fill(zone, true);
+    layers.fill(0);
+    avoids.fill(0);
+    turns.fill(0);
+    let mut next = 0;
+    let mut rounds = 0;
+    'outer: loop {
+        rounds += 1;
+        let layer = pass(arena, zone, hits, base, reach, stay, before, layers, avoids, ranks, waits, turns, next);
+        if layer == next {
+            break 'outer;
+        }
+        next = layer;
+    }
+    rounds
+}
