@@ -9,3 +9,4 @@ pub mod Attains
 pub mod Layers
 pub mod Drops
 pub mod Passes
+pub mod Answering

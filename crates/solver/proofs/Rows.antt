@@ -3,6 +3,7 @@
 --   row-here     what the row holds after it was written
 --   row-there    the other rows are as they were
 --   row-fits     the row lies within the list
+--   cells-more, rows-more   one more entry, one more row is written
 use mathlib.Core.Path.{_≡_, refl, sym, ap, subst, _∙_}
 use mathlib.Core.List.{List, _++_}
 use mathlib.Core.Logic.{_⊎_, inl, inr, ⊎-elim}
@@ -11,13 +12,14 @@ use native.Mathlib.Omega.{arith}
 use native.Mathlib.Nat.{suc-mul}
 use borrow.Author.Needs.{needs}
 use borrow.Rule.Slice.PartMut.{putMid}
-use lib.ListN.{length, getD, take, drop, replicate}
+use lib.ListN.{length, getD, take, drop, set, replicate}
 use Rattle.std.proofs.shelf.Bits.{mul-le}
-use Rattle.std.proofs.shelf.Lists.{places, getD-take, getD-drop, getD-replicate, getD-past, length-take-le, length-drop, length-replicate}
-use Rattle.std.proofs.shelf.Tests.{cases-lt, cases-bool}
+use Rattle.std.proofs.shelf.Lists.{places, getD-take, getD-drop, getD-replicate, getD-past, getD-set-same, getD-set-other, length-take-le, length-drop, length-replicate}
+use Rattle.std.proofs.shelf.Tests.{cases-lt, cases-eq, cases-bool}
 use mathlib.Core.Bool.{false}
 use Rattle.sets.specs.Member.{member, room, Filled}
 use Rattle.sets.proofs.Members.{member-below}
+use Rattle.solver.specs.Choice.{Cells, Rows}
 use Rattle.solver.specs.Reasons.{cell, row}
 
 -- two rows of n entries do not overlap
@@ -57,3 +59,23 @@ pub filled-none : (before after : List ℕ) → Filled before false after → (s
 filled-none before after f s =
     ⊎-elim (λ l. f .1 s l)
     (λ l. ⊎-elim (λ t. absurd (omega (arith, member-below after s t))) (λ t. t) (cases-bool (member after s))) (cases-lt s (room after))
+
+-- one more entry is written
+pub cells-more : (P : ℕ → ℕ → Type 0) (k : ℕ) (xs : List ℕ) (v : ℕ) → k < length xs → Cells P k xs → P k v → Cells P (k + 1) (set xs k v)
+cells-more P k xs v l all here e le = go (cases-eq e k)
+  where
+    go : (e ≡ k) ⊎ (e ≡ k → ⊥) → P e (cell (set xs k v) e)
+    go (inl q) =
+        subst (λ (x : ℕ). P x (cell (set xs k v) x)) (sym q) (subst (P k) (sym (getD-set-same xs k v 0 l)) here)
+    go (inr ne) = subst (P e) (sym (getD-set-other xs k e v 0 ne)) (all e (omega arith))
+
+-- one more row is written
+pub rows-more : (P : ℕ → ℕ → ℕ → Type 0) (k w e : ℕ) (xs part : List ℕ) → e ≡ w → length part ≡ w → k * w + w ≤ length xs →
+    Rows P k w xs → Cells (P k) w part → Rows P (k + 1) w (putMid (k * w) e xs part)
+rows-more P k w e xs part q len fits all here i s li ls = go (cases-eq i k)
+  where
+    go : (i ≡ k) ⊎ (i ≡ k → ⊥) → P i s (row (putMid (k * w) e xs part) w i s)
+    go (inl p) =
+        subst (λ (x : ℕ). P x s (row (putMid (k * w) e xs part) w x s)) (sym p)
+        (subst (P k s) (sym (row-here xs part w k s e len fits ls)) (here s ls))
+    go (inr ne) = subst (P i s) (sym (row-there xs part w k i s e q len fits ne ls)) (all i s (omega arith) ls)

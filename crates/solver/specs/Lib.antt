@@ -5,3 +5,4 @@ pub mod Sweep
 pub mod Stay
 pub mod Reach
 pub mod Settle
+pub mod Choice

@@ -2,3 +2,4 @@
 pub mod inner;
 pub mod middle;
 pub mod outer;
+pub mod answers;
