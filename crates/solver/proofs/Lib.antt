@@ -10,3 +10,4 @@ pub mod Layers
 pub mod Drops
 pub mod Passes
 pub mod Answering
+pub mod Moving

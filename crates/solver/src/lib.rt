@@ -3,3 +3,4 @@ pub mod inner;
 pub mod middle;
 pub mod outer;
 pub mod answers;
+pub mod moves;
