@@ -11,3 +11,4 @@ pub mod Drops
 pub mod Passes
 pub mod Answering
 pub mod Moving
+pub mod Solving

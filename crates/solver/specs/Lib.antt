@@ -6,3 +6,4 @@ pub mod Stay
 pub mod Reach
 pub mod Settle
 pub mod Choice
+pub mod Solution

@@ -4,3 +4,4 @@ pub mod middle;
 pub mod outer;
 pub mod answers;
 pub mod moves;
+pub mod solve;
