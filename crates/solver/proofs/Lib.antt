@@ -12,3 +12,4 @@ pub mod Passes
 pub mod Answering
 pub mod Moving
 pub mod Solving
+pub mod Calls

@@ -7,3 +7,4 @@ pub mod Reach
 pub mod Settle
 pub mod Choice
 pub mod Solution
+pub mod Call

@@ -4,4 +4,5 @@ pub mod middle;
 pub mod outer;
 pub mod answers;
 pub mod moves;
+pub mod memory;
 pub mod solve;
