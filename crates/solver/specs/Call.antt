@@ -1,8 +1,9 @@
 -- What the solver's public call says. Assumes nothing.
 --   Memory, lent           what the lent slices of table and counterstrategy hold
 --   replies, entries, rows how many entries of each kind it takes
---   SetsFit, TablesFit, WayFit   the lent slices are long enough
---   Refused                why the call refuses
+--   SetsFit, TablesFit, WayFit, AllFit   slices of these lengths are long enough
+--   Misfit                 which are the first that are not
+--   Fits, Refused          the same, of the lent slices
 --   Solves                 what the slices hold after it
 --   Call                   the call's outcome
 --   refusal                the number and the place of a refusal
@@ -61,17 +62,24 @@ TablesFit a known answers ranks waits = (a .states ≤ known) × (replies a ≤ 
 abbrev pub WayFit : Arena → ℕ → ℕ → ℕ → ℕ → Type 0
 WayFit a layers avoids moves turned = (a .states ≤ layers) × (a .states ≤ avoids) × (rows a ≤ moves) × (rows a ≤ turned)
 
-abbrev pub TableFits : Arena → Memory → Type 0
-TableFits a l = TablesFit a (length (l .known)) (length (l .answers)) (length (l .ranks)) (length (l .waits))
-
-abbrev pub CounterFits : Arena → Memory → Type 0
-CounterFits a l = WayFit a (length (l .layers)) (length (l .avoids)) (length (l .moves)) (length (l .turned))
+abbrev pub AllFit : Arena → ℕ → ℕ → ℕ → ℕ → ℕ → ℕ → ℕ → ℕ → ℕ → Type 0
+AllFit a sets known answers ranks waits layers avoids moves turned =
+    SetsFit a sets × TablesFit a known answers ranks waits × WayFit a layers avoids moves turned
 
 -- the first kind of slices that is too short
+abbrev pub Misfit : Arena → ℕ → ℕ → ℕ → ℕ → ℕ → ℕ → ℕ → ℕ → ℕ → Short → Type 0
+Misfit a sets known answers ranks waits layers avoids moves turned Sets = SetsFit a sets → ⊥
+Misfit a sets known answers ranks waits layers avoids moves turned Tables = SetsFit a sets × (TablesFit a known answers ranks waits → ⊥)
+Misfit a sets known answers ranks waits layers avoids moves turned Way =
+    SetsFit a sets × TablesFit a known answers ranks waits × (WayFit a layers avoids moves turned → ⊥)
+
+abbrev pub Fits : Arena → List ℕ → Memory → Type 0
+Fits a sets l =
+    AllFit a (length sets) (length (l .known)) (length (l .answers)) (length (l .ranks)) (length (l .waits)) (length (l .layers)) (length (l .avoids)) (length (l .moves)) (length (l .turned))
+
 abbrev pub Refused : Arena → List ℕ → Memory → Short → Type 0
-Refused a sets l Sets = SetsFit a (length sets) → ⊥
-Refused a sets l Tables = SetsFit a (length sets) × (TableFits a l → ⊥)
-Refused a sets l Way = SetsFit a (length sets) × TableFits a l × (CounterFits a l → ⊥)
+Refused a sets l short =
+    Misfit a (length sets) (length (l .known)) (length (l .answers)) (length (l .ranks)) (length (l .waits)) (length (l .layers)) (length (l .avoids)) (length (l .moves)) (length (l .turned)) short
 
 -- the first entries hold table and counterstrategy; what goes beyond is as it was
 pub record Solves (a : Arena) (l l′ : Memory) : Type 0 where
@@ -86,7 +94,7 @@ pub record Solves (a : Arena) (l l′ : Memory) : Type 0 where
 -- The call solves, in so many rounds, where all slices are long enough; else it refuses, and changes nothing.
 abbrev pub Call : Arena → List ℕ → Memory → List ℕ → Memory → Result ℕ Short → Type 0
 Call a sets l sets′ l′ (Ok rounds) =
-    SetsFit a (length sets) × TableFits a l × CounterFits a l × Solves a l l′ × (0 < rounds) × (rounds ≤ a .states + 1)
+    Fits a sets l × Solves a l l′ × (0 < rounds) × (rounds ≤ a .states + 1)
 Call a sets l sets′ l′ (Err short) = Refused a sets l short × (sets′ ≡ sets) × (l′ ≡ l)
 
 -- the refusal's number, and its place: 0 for the sets, 1 for the table, 2 for the counterstrategy

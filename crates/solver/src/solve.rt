@@ -2,11 +2,11 @@
 ghost use lib.ListN.{length};
 ghost use mathlib.Core.Path.{_≡_};
 ghost use Prim.Native.Nat.{_+_, _*_, _<_, _≤_};
-ghost use Rattle.game.specs.Counterstrategy.{turns as turn-rows};
 ghost use Rattle.sets.specs.Arena.{arena-game};
 ghost use Rattle.sets.specs.Member.{room};
-ghost use Rattle.solver.specs.Call.{Call, TablesFit, WayFit, lent};
+ghost use Rattle.solver.specs.Call.{AllFit, Call, Misfit, SetsFit, Solves, TablesFit, WayFit, entries, lent, replies, rows};
 ghost use Rattle.solver.specs.Solution.{Solution};
+ghost use Rattle.std.specs.Options.{Cases as BySome};
 ghost use Rattle.std.specs.Orderings.{Decides};
 use super::answers::answer_all;
 use super::memory::{Short, Table, Way};
@@ -14,44 +14,20 @@ use super::moves::{move_all, row_count};
 use super::outer::settle;
 use sets::arena::Arena;
 
-// Solves the game in slices that are as long as it takes; returns how many rounds the outer loop took.
-fn solve_within(arena: Arena<'_>, hits: &mut [u8], base: &mut [u8], reach: &mut [u8], stay: &mut [u8], before: &mut [u8], known: &mut [u8], answers: &mut [u8], ranks: &mut [u16], waits: &mut [u8], layers: &mut [u16], avoids: &mut [u8], moves: &mut [u8], turns: &mut [u16]) -> u32
-    requires hits { ⌜ room (now hits) ≡ arena .states ⌝ }
-    requires base { ⌜ room (now base) ≡ arena .states ⌝ }
-    requires reach { ⌜ room (now reach) ≡ arena .states ⌝ }
-    requires stay { ⌜ room (now stay) ≡ arena .states ⌝ }
-    requires before { ⌜ room (now before) ≡ arena .states ⌝ }
-    requires known { ⌜ room (now known) ≡ arena .states ⌝ }
-    requires answers { ⌜ length (now answers) ≡ arena .«goal_count» * (arena .states * arena .moves) ⌝ }
-    requires ranks { ⌜ length (now ranks) ≡ arena .«goal_count» * arena .states ⌝ }
-    requires waits { ⌜ length (now waits) ≡ arena .«goal_count» * arena .states ⌝ }
-    requires layers { ⌜ length (now layers) ≡ arena .states ⌝ }
-    requires avoids { ⌜ length (now avoids) ≡ arena .states ⌝ }
-    requires moves { ⌜ length (now moves) ≡ turn-rows (arena .«promise_count») * arena .states ⌝ }
-    requires turns { ⌜ length (now turns) ≡ turn-rows (arena .«promise_count») * arena .states ⌝ }
-    ensures solution { λ r. ⌜ Solution (arena-game (arena .entry)) (arena .entry .states) (arena .entry .moves) (now (known .exit)) (now (answers .exit)) (now (ranks .exit)) (now (waits .exit)) (now (layers .exit)) (now (avoids .exit)) (now (moves .exit)) (now (turns .exit)) ⌝ }
-    ensures rounds { λ r. ⌜ 0 < r ⌝ ∗ ⌜ r ≤ arena .entry .states + 1 ⌝ }
-{
-    let rounds = settle(arena, known, hits, base, reach, stay, before, layers, avoids, ranks, waits, turns);
-    answer_all(arena, known, ranks, waits, answers);
-    move_all(arena, known, layers, avoids, turns, moves);
-    rounds
-}
-
 // How many sets the loops work with.
 pub const SETS: usize = 5;
 
-// Cuts the lent sets into five, and solves.
-fn solve_parts(arena: Arena<'_>, sets: &mut [u8], known: &mut [u8], answers: &mut [u8], ranks: &mut [u16], waits: &mut [u8], layers: &mut [u16], avoids: &mut [u8], moves: &mut [u8], turns: &mut [u16]) -> u32
-    requires sets { ⌜ 5 * arena .states ≤ length (now sets) ⌝ }
+// Solves the game in slices that are as long as it takes; returns how many rounds the outer loop took.
+fn solve_within(arena: Arena<'_>, sets: &mut [u8], known: &mut [u8], answers: &mut [u8], ranks: &mut [u16], waits: &mut [u8], layers: &mut [u16], avoids: &mut [u8], moves: &mut [u8], turns: &mut [u16]) -> u32
+    requires sets { ⌜ SetsFit arena (length (now sets)) ⌝ }
     requires known { ⌜ room (now known) ≡ arena .states ⌝ }
-    requires answers { ⌜ length (now answers) ≡ arena .«goal_count» * (arena .states * arena .moves) ⌝ }
-    requires ranks { ⌜ length (now ranks) ≡ arena .«goal_count» * arena .states ⌝ }
-    requires waits { ⌜ length (now waits) ≡ arena .«goal_count» * arena .states ⌝ }
+    requires answers { ⌜ length (now answers) ≡ replies arena ⌝ }
+    requires ranks { ⌜ length (now ranks) ≡ entries arena ⌝ }
+    requires waits { ⌜ length (now waits) ≡ entries arena ⌝ }
     requires layers { ⌜ length (now layers) ≡ arena .states ⌝ }
     requires avoids { ⌜ length (now avoids) ≡ arena .states ⌝ }
-    requires moves { ⌜ length (now moves) ≡ turn-rows (arena .«promise_count») * arena .states ⌝ }
-    requires turns { ⌜ length (now turns) ≡ turn-rows (arena .«promise_count») * arena .states ⌝ }
+    requires moves { ⌜ length (now moves) ≡ rows arena ⌝ }
+    requires turns { ⌜ length (now turns) ≡ rows arena ⌝ }
     ensures solution { λ r. ⌜ Solution (arena-game (arena .entry)) (arena .entry .states) (arena .entry .moves) (now (known .exit)) (now (answers .exit)) (now (ranks .exit)) (now (waits .exit)) (now (layers .exit)) (now (avoids .exit)) (now (moves .exit)) (now (turns .exit)) ⌝ }
     ensures rounds { λ r. ⌜ 0 < r ⌝ ∗ ⌜ r ≤ arena .entry .states + 1 ⌝ }
 {
@@ -60,7 +36,10 @@ fn solve_parts(arena: Arena<'_>, sets: &mut [u8], known: &mut [u8], answers: &mu
     let (reach, rest) = rest.split_at_mut(arena.states);
     let (stay, rest) = rest.split_at_mut(arena.states);
     let (before, _) = rest.split_at_mut(arena.states);
-    solve_within(arena, hits, base, reach, stay, before, known, answers, ranks, waits, layers, avoids, moves, turns)
+    let rounds = settle(arena, known, hits, base, reach, stay, before, layers, avoids, ranks, waits, turns);
+    answer_all(arena, known, ranks, waits, answers);
+    move_all(arena, known, layers, avoids, turns, moves);
+    rounds
 }
 
 // Whether the slices of a table are long enough.
@@ -79,6 +58,45 @@ fn way_fits(arena: Arena<'_>, layers: usize, avoids: usize, moves: usize, turns:
     arena.states <= layers && arena.states <= avoids && rows <= moves && rows <= turns
 }
 
+// Which slices are too short, if any: first the sets, then the table's, then the counterstrategy's.
+fn too_short(arena: Arena<'_>, sets: usize, known: usize, answers: usize, ranks: usize, waits: usize, layers: usize, avoids: usize, moves: usize, turns: usize) -> Option<Short>
+    ensures { λ r. ⌜ BySome r (AllFit (arena .entry) sets known answers ranks waits layers avoids moves turns) (Misfit (arena .entry) sets known answers ranks waits layers avoids moves turns) ⌝ }
+{
+    if sets < SETS * arena.states {
+        return Some(Short::Sets);
+    }
+    if !tables_fit(arena, known, answers, ranks, waits) {
+        return Some(Short::Tables);
+    }
+    if !way_fits(arena, layers, avoids, moves, turns) {
+        return Some(Short::Way);
+    }
+    None
+}
+
+// Solves the game in slices that are long enough; what goes beyond what it takes is left as it is.
+fn solve_front(arena: Arena<'_>, sets: &mut [u8], known: &mut [u8], answers: &mut [u8], ranks: &mut [u16], waits: &mut [u8], layers: &mut [u16], avoids: &mut [u8], moves: &mut [u8], turns: &mut [u16]) -> u32
+    requires { ⌜ AllFit arena (length (now sets)) (length (now known)) (length (now answers)) (length (now ranks)) (length (now waits)) (length (now layers)) (length (now avoids)) (length (now moves)) (length (now turns)) ⌝ }
+    ensures solves { λ r. ⌜ Solves (arena .entry) (lent (now (known .entry)) (now (answers .entry)) (now (ranks .entry)) (now (waits .entry)) (now (layers .entry)) (now (avoids .entry)) (now (moves .entry)) (now (turns .entry))) (lent (now (known .exit)) (now (answers .exit)) (now (ranks .exit)) (now (waits .exit)) (now (layers .exit)) (now (avoids .exit)) (now (moves .exit)) (now (turns .exit))) ⌝ }
+    ensures rounds { λ r. ⌜ 0 < r ⌝ ∗ ⌜ r ≤ arena .entry .states + 1 ⌝ }
+{
+    let n = arena.states;
+    let entries = arena.goal_count * n;
+    let replies = arena.goal_count * (n * arena.moves);
+    let rows = row_count(arena) * n;
+    solve_within(arena, sets, &mut known[0..n], &mut answers[0..replies], &mut ranks[0..entries], &mut waits[0..entries], &mut layers[0..n], &mut avoids[0..n], &mut moves[0..rows], &mut turns[0..rows])
+}
+
+// As `solve`, over slices one by one.
+fn solve_slices(arena: Arena<'_>, sets: &mut [u8], known: &mut [u8], answers: &mut [u8], ranks: &mut [u16], waits: &mut [u8], layers: &mut [u16], avoids: &mut [u8], moves: &mut [u8], turns: &mut [u16]) -> Result<u32, Short>
+    ensures { λ r. ⌜ Call (arena .entry) (now (sets .entry)) (lent (now (known .entry)) (now (answers .entry)) (now (ranks .entry)) (now (waits .entry)) (now (layers .entry)) (now (avoids .entry)) (now (moves .entry)) (now (turns .entry))) (now (sets .exit)) (lent (now (known .exit)) (now (answers .exit)) (now (ranks .exit)) (now (waits .exit)) (now (layers .exit)) (now (avoids .exit)) (now (moves .exit)) (now (turns .exit))) r ⌝ }
+{
+    match too_short(arena, sets.len(), known.len(), answers.len(), ranks.len(), waits.len(), layers.len(), avoids.len(), moves.len(), turns.len()) {
+        Some(short) => Err(short),
+        None => Ok(solve_front(arena, sets, known, answers, ranks, waits, layers, avoids, moves, turns)),
+    }
+}
+
 // Solves the game: who wins from each state, with a table with reasons for the controller's states, and a
 // counterstrategy for the environment's. Returns how many rounds the outer loop took. Which table and which
 // counterstrategy, of those that hold together, is left to choice. Slices that are too short are refused, and then
@@ -88,18 +106,5 @@ pub fn solve(arena: Arena<'_>, sets: &mut [u8], table: Table<'_>, way: Way<'_>) 
 {
     let Table { known, answers, ranks, waits } = table;
     let Way { layers, avoids, moves, ranks: turns } = way;
-    if sets.len() < SETS * arena.states {
-        return Err(Short::Sets);
-    }
-    if !tables_fit(arena, known.len(), answers.len(), ranks.len(), waits.len()) {
-        return Err(Short::Tables);
-    }
-    if !way_fits(arena, layers.len(), avoids.len(), moves.len(), turns.len()) {
-        return Err(Short::Way);
-    }
-    let entries = arena.goal_count * arena.states;
-    let replies = arena.goal_count * (arena.states * arena.moves);
-    let rows = row_count(arena) * arena.states;
-    let rounds = solve_parts(arena, sets, &mut known[0..arena.states], &mut answers[0..replies], &mut ranks[0..entries], &mut waits[0..entries], &mut layers[0..arena.states], &mut avoids[0..arena.states], &mut moves[0..rows], &mut turns[0..rows]);
-    Ok(rounds)
+    solve_slices(arena, sets, known, answers, ranks, waits, layers, avoids, moves, turns)
 }

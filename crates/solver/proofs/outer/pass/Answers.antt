@@ -12,17 +12,11 @@ use Rattle.solver.proofs.outer.pass.Needs as need
 
 pub part-attain-end : need.part-attain-end
 part-attain-end c =
-    let a = c .args .arena in
-    let fits : c .loop-j .j * a .states + a .states ≤ length (c .loop-j .ranks) =
-      row-fits _ _ (a .«goal_count») _ (c .loop-j-test .taken) (omega (arith, c .pre .ranks)) in
-    omega (arith, fits)
+    row-fits (c .args .arena .states) (c .loop-j .j) (c .args .arena .«goal_count») (length (c .loop-j .ranks)) (c .loop-j-test .taken) (omega (arith, c .pre .ranks))
 
 pub part-attain-end-in-loop-j : need.part-attain-end-in-loop-j
 part-attain-end-in-loop-j c =
-    let a = c .args .arena in
-    let fits : c .loop-j .j * a .states + a .states ≤ length (c .loop-j .waits) =
-      row-fits _ _ (a .«goal_count») _ (c .loop-j-test .taken) (omega (arith, c .pre .waits)) in
-    omega (arith, fits)
+    row-fits (c .args .arena .states) (c .loop-j .j) (c .args .arena .«goal_count») (length (c .loop-j .waits)) (c .loop-j-test .taken) (omega (arith, c .pre .waits))
 
 pub loop-j-again : need.loop-j-again
 loop-j-again c =
