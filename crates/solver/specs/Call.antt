@@ -6,17 +6,26 @@
 --   Fits, Refused          the same, of the lent slices
 --   Solves                 what the slices hold after it
 --   Call                   the call's outcome
+--   outcome-of             who wins from a state
 --   refusal                the number and the place of a refusal
 use mathlib.Core.Path.{_≡_}
 use mathlib.Core.List.{List}
 use Prim.Native.Nat.{ℕ, _+_, _*_, _<_, _≤_}
 use lib.ListN.{length, take, drop}
+use mathlib.Core.Bool.{cond, _&&_}
+use lib.Dec.{ltb}
+use Rattle.std.specs.declared.option.Option.{Option}
+use Rattle.std.specs.declared.option.Option.the-variants.{Some, None}
 use Rattle.std.specs.declared.result.Result.{Result}
 use Rattle.std.specs.declared.result.Result.the-variants.{Ok, Err}
 use Rattle.game.specs.Counterstrategy.{turns}
 use Rattle.sets.specs.Arena.{arena-game}
+use Rattle.sets.specs.Member.{member, room}
 use Rattle.sets.specs.declared.arena.Arena.{Arena}
+use Rattle.solver.specs.Reasons.{cell}
 use Rattle.solver.specs.Solution.{Solution}
+use Rattle.solver.specs.declared.memory.Outcome.{Outcome}
+use Rattle.solver.specs.declared.memory.Outcome.the-variants.{Won, Lost}
 use Rattle.solver.specs.declared.memory.Short.{Short}
 use Rattle.solver.specs.declared.memory.Short.the-variants.{Sets, Tables, Way}
 
@@ -96,6 +105,11 @@ abbrev pub Call : Arena → List ℕ → Memory → List ℕ → Memory → Resu
 Call a sets l sets′ l′ (Ok rounds) =
     Fits a sets l × Solves a l l′ × (0 < rounds) × (rounds ≤ a .states + 1)
 Call a sets l sets′ l′ (Err short) = Refused a sets l short × (sets′ ≡ sets) × (l′ ≡ l)
+
+-- who wins from s, if the slices have it: the controller where the table knows it, with the rounds; else the environment, with the layer
+abbrev pub outcome-of : List ℕ → List ℕ → ℕ → ℕ → Option Outcome
+outcome-of known layers rounds s =
+    cond (ltb s (room known) && ltb s (length layers)) (Some (cond (member known s) (Won rounds) (Lost (cell layers s)))) None
 
 -- the refusal's number, and its place: 0 for the sets, 1 for the table, 2 for the counterstrategy
 abbrev pub refusal : Short → ℕ × ℕ

@@ -27,3 +27,11 @@ pub enum Short {
     Tables,
     Way,
 }
+
+// Who wins from a state: the controller, with the rounds that the outer loop took, or the environment, with the state's
+// layer.
+#[derive(Clone, Copy)]
+pub enum Outcome {
+    Won { rounds: u32 },
+    Lost { layer: u16 },
+}

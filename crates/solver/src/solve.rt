@@ -4,15 +4,16 @@ ghost use mathlib.Core.Path.{_≡_};
 ghost use Prim.Native.Nat.{_+_, _*_, _<_, _≤_};
 ghost use Rattle.sets.specs.Arena.{arena-game};
 ghost use Rattle.sets.specs.Member.{room};
-ghost use Rattle.solver.specs.Call.{AllFit, Call, Misfit, SetsFit, Solves, TablesFit, WayFit, entries, lent, replies, rows};
+ghost use Rattle.solver.specs.Call.{AllFit, Call, Misfit, SetsFit, Solves, TablesFit, WayFit, entries, lent, outcome-of, replies, rows};
 ghost use Rattle.solver.specs.Solution.{Solution};
 ghost use Rattle.std.specs.Options.{Cases as BySome};
 ghost use Rattle.std.specs.Orderings.{Decides};
 use super::answers::answer_all;
-use super::memory::{Short, Table, Way};
+use super::memory::{Outcome, Short, Table, Way};
 use super::moves::{move_all, row_count};
 use super::outer::settle;
 use sets::arena::Arena;
+use sets::set::has;
 
 // How many sets the loops work with.
 pub const SETS: usize = 5;
@@ -107,4 +108,17 @@ pub fn solve(arena: Arena<'_>, sets: &mut [u8], table: Table<'_>, way: Way<'_>) 
     let Table { known, answers, ranks, waits } = table;
     let Way { layers, avoids, moves, ranks: turns } = way;
     solve_slices(arena, sets, known, answers, ranks, waits, layers, avoids, moves, turns)
+}
+
+// Who wins from the state `s`, read off what `solve` wrote; nothing where it is no state of the slices.
+pub fn outcome(known: &[u8], layers: &[u16], rounds: u32, s: usize) -> Option<Outcome>
+    ensures { λ r. ⌜ r ≡ outcome-of (now (known .entry)) (now (layers .entry)) rounds s ⌝ }
+{
+    if s >= known.len() {
+        return None;
+    }
+    if s >= layers.len() {
+        return None;
+    }
+    if has(known, s) { Some(Outcome::Won { rounds }) } else { Some(Outcome::Lost { layer: layers[s] }) }
 }
