@@ -48,7 +48,7 @@ abbrev pub Descends : Game → Counterstrategy → ℕ → ℕ → ℕ → Type 
 Descends g c i s t =
     (c .layer t < c .layer s)
     ⊎ ((c .layer t ≡ c .layer s) × (c .avoid t ≡ c .avoid s) × (c .avoid s < g .goals)
-      × (g .goal (c .avoid s) s ≡ false) × Onward g c i s t)
+    × (g .goal (c .avoid s) s ≡ false) × Onward g c i s t)
 
 -- A counterstrategy holds together: in each known state, for each promise gone for, the move is one that the
 -- environment may make, and every allowed answer leads to a known state and descends. Where no answer is allowed

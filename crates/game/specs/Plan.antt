@@ -22,7 +22,7 @@ abbrev pub Progress : Game → Plan → ℕ → ℕ → ℕ → Type 0
 Progress g p j s t =
     (p .rank j t < p .rank j s)
     ⊎ ((p .rank j t ≡ p .rank j s) × (p .waits j t ≡ p .waits j s)
-      × (p .waits j s < g .promises) × (g .promise (p .waits j s) s ≡ false))
+    × (p .waits j s < g .promises) × (g .promise (p .waits j s) s ≡ false))
 
 -- A plan holds together: in each known state, for each move that the environment may make there, the answer is allowed
 -- and leads to a known state for the goal gone for then; and while the goal does not hold there is progress.

@@ -98,8 +98,9 @@ now-after g p s (e ∷ es) =
     record {
       mode = goal-after g (now-after g p s es .mode) (now-after g p s es .state);
       state =
-        g .after (now-after g p s es .state) e
-        (p .answer (now-after g p s es .mode) (now-after g p s es .state) e) }
+          g .after (now-after g p s es .state) e
+          (p .answer (now-after g p s es .mode) (now-after g p s es .state) e);
+    }
 
 -- the controller that follows the plan p from s; before any move there is nothing to answer
 unfoldable pub follow : Game → Plan → ℕ → Controller
@@ -121,7 +122,8 @@ led g c k s (suc n) =
     record {
       toward = promise-after g (l .toward) (l .state);
       state = g .after (l .state) e (k (e ∷ l .moved));
-      moved = e ∷ l .moved }
+      moved = e ∷ l .moved;
+    }
 
 -- the environment's move at the time n of that play
 unfoldable pub lead : Game → Counterstrategy → Controller → ℕ → ℕ → ℕ

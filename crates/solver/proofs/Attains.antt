@@ -18,8 +18,7 @@ use Rattle.solver.specs.Sweep.{Decided}
 use Rattle.solver.proofs.Ranks.{grounded, settled-least}
 
 module _ (g : Game) (n : ℕ) (Z : Set) (j : ℕ) (H : Set) (zone-below : (s : ℕ) → Z s ≡ true → s < n)
-  (hits-below : (s : ℕ) → H s ≡ true → s < n) (hits : Decided (Hit g Z j) n H) where
-
+    (hits-below : (s : ℕ) → H s ≡ true → s < n) (hits : Decided (Hit g Z j) n H) where
   pub base-is : (Y F : Set) → ((s : ℕ) → F s ≡ true → s < n) → Decided (Onto g Z H Y) n F → IsBase g Z j Y F
   base-is Y F below d s = (λ f. to (d s (below s f) .0 f), λ p. d s (zone-below s (p .0)) .1 (from (p .0) (p .1)))
     where
@@ -48,16 +47,16 @@ pub record Attaining (g : Game) (n : ℕ) (Z : Set) (j : ℕ) (turns₀ reach ra
   pub beyond : (i s : ℕ) → g .promises ≤ i → s < n → row turns n i s ≡ row turns₀ n i s
 
 module _ (g : Game) (n : ℕ) (Z : Set) (j : ℕ) (turns₀ reach ranks waits turns : List ℕ) (next : ℕ)
-  (inv : Attaining g n Z j turns₀ reach ranks waits turns next) (k : ℕ) (all : k ≡ g .promises)
-  (reach′ ranks′ waits′ turns′ : List ℕ) (next′ : ℕ)
-  (r : Rounded g n Z j reach turns next k reach′ ranks′ waits′ turns′ next′) where
-
+    (inv : Attaining g n Z j turns₀ reach ranks waits turns next) (k : ℕ) (all : k ≡ g .promises)
+    (reach′ ranks′ waits′ turns′ : List ℕ) (next′ : ℕ)
+    (r : Rounded g n Z j reach turns next k reach′ ranks′ waits′ turns′ next′) where
   pub attaining-more : Attaining g n Z j turns₀ reach′ ranks′ waits′ turns′ next′
   attaining-more =
       record {
         ranked = r .ranked;
         outside = λ i s l m z. r .outside i s l m z ∙ inv .outside i s l m z;
-        beyond = λ i s l m. r .beyond i s l m ∙ inv .beyond i s l m }
+        beyond = λ i s l m. r .beyond i s l m ∙ inv .beyond i s l m;
+      }
 
   pub attained : next′ ≡ next → Attained g n Z j (member reach′) (cell ranks′) (cell waits′) turns₀ turns′
   attained q =
@@ -69,7 +68,8 @@ module _ (g : Game) (n : ℕ) (Z : Set) (j : ℕ) (turns₀ reach ranks waits tu
         base = done .base;
         turned = done .turned;
         outside = attaining-more .outside;
-        beyond = attaining-more .beyond }
+        beyond = attaining-more .beyond;
+      }
     where
       done : Settled g n Z j (member reach′) turns′ (g .promises)
       done =

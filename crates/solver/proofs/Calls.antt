@@ -37,16 +37,17 @@ pub solves-from : (a : Arena) (l p : Memory) (e₀ e₁ e₂ e₃ e₄ e₅ e₆
     Solution (arena-game a) (a .states) (a .moves) (p .known) (p .answers) (p .ranks) (p .waits) (p .layers) (p .avoids) (p .moves) (p .turned) →
     Solves a l
     (lent (p .known ++ drop e₀ (l .known)) (p .answers ++ drop e₁ (l .answers)) (p .ranks ++ drop e₂ (l .ranks)) (p .waits ++ drop e₃ (l .waits))
-     (p .layers ++ drop e₄ (l .layers)) (p .avoids ++ drop e₅ (l .avoids)) (p .moves ++ drop e₆ (l .moves)) (p .turned ++ drop e₇ (l .turned)))
+    (p .layers ++ drop e₄ (l .layers)) (p .avoids ++ drop e₅ (l .avoids)) (p .moves ++ drop e₆ (l .moves)) (p .turned ++ drop e₇ (l .turned)))
 solves-from a l p e₀ e₁ e₂ e₃ e₄ e₅ e₆ e₇ f₀ f₁ f₂ f₃ f₄ f₅ f₆ f₇ so =
     record {
       solution =
-        along4
-        (λ x y z w.
-           Solution (arena-game a) (a .states) (a .moves) x y z w (take (a .states) (p .layers ++ drop e₄ (l .layers))) (take (a .states) (p .avoids ++ drop e₅ (l .avoids)))
-           (take (rows a) (p .moves ++ drop e₆ (l .moves))) (take (rows a) (p .turned ++ drop e₇ (l .turned))))
-        (front-part _ _ _ _ f₀) (front-part _ _ _ _ f₁) (front-part _ _ _ _ f₂) (front-part _ _ _ _ f₃)
-        (along4 (λ x y z w. Solution (arena-game a) (a .states) (a .moves) (p .known) (p .answers) (p .ranks) (p .waits) x y z w)
-         (front-part _ _ _ _ f₄) (front-part _ _ _ _ f₅) (front-part _ _ _ _ f₆) (front-part _ _ _ _ f₇) so);
+          along4
+          (λ x y z w.
+          Solution (arena-game a) (a .states) (a .moves) x y z w (take (a .states) (p .layers ++ drop e₄ (l .layers))) (take (a .states) (p .avoids ++ drop e₅ (l .avoids)))
+          (take (rows a) (p .moves ++ drop e₆ (l .moves))) (take (rows a) (p .turned ++ drop e₇ (l .turned))))
+          (front-part _ _ _ _ f₀) (front-part _ _ _ _ f₁) (front-part _ _ _ _ f₂) (front-part _ _ _ _ f₃)
+          (along4 (λ x y z w. Solution (arena-game a) (a .states) (a .moves) (p .known) (p .answers) (p .ranks) (p .waits) x y z w)
+          (front-part _ _ _ _ f₄) (front-part _ _ _ _ f₅) (front-part _ _ _ _ f₆) (front-part _ _ _ _ f₇) so);
       beyond-table = (front-rest _ _ _ _ f₀, front-rest _ _ _ _ f₁, front-rest _ _ _ _ f₂, front-rest _ _ _ _ f₃);
-      beyond-way = (front-rest _ _ _ _ f₄, front-rest _ _ _ _ f₅, front-rest _ _ _ _ f₆, front-rest _ _ _ _ f₇) }
+      beyond-way = (front-rest _ _ _ _ f₄, front-rest _ _ _ _ f₅, front-rest _ _ _ _ f₆, front-rest _ _ _ _ f₇);
+    }

@@ -27,10 +27,11 @@ dropped-none n zone reach layers avoids layer goal =
       same = λ _. refl;
       up = omega arith;
       by-one = omega arith;
-      left = omega arith }
+      left = omega arith;
+    }
 
 module _ (n : ℕ) (zone reach layers avoids : List ℕ) (layer goal s : ℕ) (zone′ layers′ avoids′ : List ℕ) (next : ℕ)
-  (inv : Dropped n zone reach layers avoids layer goal s zone′ layers′ avoids′ next) where
+    (inv : Dropped n zone reach layers avoids layer goal s zone′ layers′ avoids′ next) where
   -- the states from s on are as they were
   as-was : member zone′ s ≡ member zone s
   as-was = inv .marked .rest s (omega arith) .0
@@ -42,25 +43,27 @@ module _ (n : ℕ) (zone reach layers avoids : List ℕ) (layer goal s : ℕ) (z
         same = inv .same;
         up = inv .up;
         by-one = inv .by-one;
-        left = inv .left }
+        left = inv .left;
+      }
 
   pub dropped-hit : (zone″ : List ℕ) → s < n → s < length layers′ → s < length avoids′ → New (member zone′) (member reach) s → Put zone′ s false zone″ →
       Dropped n zone reach layers avoids layer goal (s + 1) zone″ (set layers′ s layer) (set avoids′ s goal) (layer + 1)
   dropped-hit zone″ l ll la new p =
       let cZ = put-changed zone′ zone″ s false p in
       let less : count n (member zone″) + 1 ≡ count n (member zone′) =
-        count-out n (member zone′) (member zone″) s l (new .0) (cZ .0) (cZ .1) in
+      count-out n (member zone′) (member zone″) s l (new .0) (cZ .0) (cZ .1) in
       record {
         marked =
-          marked-hit _ _ s false _ _ _ layer _ _ _ goal _ _ _ (inv .marked) (sym as-was ∙ new .0, new .1) cZ
-          (set-changed layers′ s layer ll) (set-changed avoids′ s goal la);
+            marked-hit _ _ s false _ _ _ layer _ _ _ goal _ _ _ (inv .marked) (sym as-was ∙ new .0, new .1) cZ
+            (set-changed layers′ s layer ll) (set-changed avoids′ s goal la);
         same = λ e. absurd (omega arith);
         up = omega arith;
         by-one = omega arith;
-        left = omega (arith, less, inv .left, inv .up) }
+        left = omega (arith, less, inv .left, inv .up);
+      }
 
 module _ (n : ℕ) (zone reach layers avoids : List ℕ) (layer goal : ℕ) (zone′ layers′ avoids′ : List ℕ) (next : ℕ)
-  (fits : room zone ≡ n) (d : Dropped n zone reach layers avoids layer goal n zone′ layers′ avoids′ next) where
+    (fits : room zone ≡ n) (d : Dropped n zone reach layers avoids layer goal n zone′ layers′ avoids′ next) where
   pub dropped-some : (s : ℕ) → New (member zone) (member reach) s → layer < next
   dropped-some s new = go (cases-eq next layer)
     where

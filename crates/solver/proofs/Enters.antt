@@ -21,10 +21,11 @@ entered-none n found reach ranks waits rank wait =
       same = λ _. refl;
       up = omega arith;
       by-one = omega arith;
-      left = omega arith }
+      left = omega arith;
+    }
 
 module _ (n : ℕ) (found reach ranks waits : List ℕ) (rank wait s : ℕ) (reach′ ranks′ waits′ : List ℕ) (next : ℕ)
-  (inv : Entered n found reach ranks waits rank wait s reach′ ranks′ waits′ next) where
+    (inv : Entered n found reach ranks waits rank wait s reach′ ranks′ waits′ next) where
   -- the states from s on are as they were
   pub as-was : member reach′ s ≡ member reach s
   as-was = inv .marked .rest s (omega arith) .0
@@ -36,19 +37,21 @@ module _ (n : ℕ) (found reach ranks waits : List ℕ) (rank wait s : ℕ) (rea
         same = inv .same;
         up = inv .up;
         by-one = inv .by-one;
-        left = inv .left }
+        left = inv .left;
+      }
 
   pub entered-hit : (reach″ : List ℕ) → s < n → s < length ranks′ → s < length waits′ → New (member found) (member reach′) s → Put reach′ s true reach″ →
       Entered n found reach ranks waits rank wait (s + 1) reach″ (set ranks′ s rank) (set waits′ s wait) (rank + 1)
   entered-hit reach″ l lr lw new p =
       let cY = put-changed reach′ reach″ s true p in
       let more : count n (member reach″) ≡ count n (member reach′) + 1 =
-        count-in n (member reach′) (member reach″) s l (new .1) (cY .0) (cY .1) in
+      count-in n (member reach′) (member reach″) s l (new .1) (cY .0) (cY .1) in
       record {
         marked =
-          marked-hit _ _ s true _ _ _ rank _ _ _ wait _ _ _ (inv .marked) (new .0, sym as-was ∙ new .1) cY
-          (set-changed ranks′ s rank lr) (set-changed waits′ s wait lw);
+            marked-hit _ _ s true _ _ _ rank _ _ _ wait _ _ _ (inv .marked) (new .0, sym as-was ∙ new .1) cY
+            (set-changed ranks′ s rank lr) (set-changed waits′ s wait lw);
         same = λ e. absurd (omega arith);
         up = omega arith;
         by-one = omega arith;
-        left = omega (arith, more, inv .left, inv .up) }
+        left = omega (arith, more, inv .left, inv .up);
+      }

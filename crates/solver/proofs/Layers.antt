@@ -34,16 +34,17 @@ abbrev Descent : Game → ℕ → ℕ → ℕ → ℕ → ℕ → ℕ → ℕ �
 Descent g i s ls lt ds dt rs rt =
     (lt < ls)
     ⊎ ((lt ≡ ls) × (dt ≡ ds) × (ds < g .goals) × (g .goal ds s ≡ false)
-      × ((kept g i s ≡ true) ⊎ ((kept g i s ≡ false) × (0 < g .promises) × (rt < rs)) ⊎ ((g .promises ≡ 0) × (rt ≡ rs))))
+    × ((kept g i s ≡ true) ⊎ ((kept g i s ≡ false) × (0 < g .promises) × (rt < rs)) ⊎ ((g .promises ≡ 0) × (rt ≡ rs))))
 
 pub free-same : (g : Game) (n : ℕ) (Z Z′ : Set) (L L′ A A′ : ℕ → ℕ) (M M′ T T′ : ℕ → ℕ → ℕ) (i s t : ℕ) → (Z t ≡ false → Z′ t ≡ false) →
     L′ s ≡ L s → L′ t ≡ L t → A′ s ≡ A s → A′ t ≡ A t → T′ i s ≡ T i s → T′ i t ≡ T i t →
     Free g (losing n Z L A M T) i s t → Free g (losing n Z′ L′ A′ M′ T′) i s t
 free-same g n Z Z′ L L′ A A′ M M′ T T′ i s t z ls lt ds dt rs rt (known, d) =
-    let k = and-parts (ltb t n) (not (Z t)) known in
-    (and-from (ltb t n) (not (Z′ t)) (k .0) (not-from-false (Z′ t) (z (not-true (Z t) (k .1)))),
-     along3 (λ a b c. Descent g i s a b c (A′ t) (T′ i s) (T′ i t)) ls lt ds
-     (along3 (λ a b c. Descent g i s (L s) (L t) (A s) a b c) dt rs rt d))
+    let k = and-parts (ltb t n) (not (Z t)) known in (
+      and-from (ltb t n) (not (Z′ t)) (k .0) (not-from-false (Z′ t) (z (not-true (Z t) (k .1)))),
+      along3 (λ a b c. Descent g i s a b c (A′ t) (T′ i s) (T′ i t)) ls lt ds
+          (along3 (λ a b c. Descent g i s (L s) (L t) (A s) a b c) dt rs rt d),
+    )
 
 pub lost-first : (g : Game) (n : ℕ) (Z : Set) (L A : ℕ → ℕ) (T : ℕ → ℕ → ℕ) → ((s : ℕ) → s < n → Z s ≡ true) →
     ((s : ℕ) → (L s ≡ 0) × (A s ≡ 0)) → ((s : ℕ) → T 0 s ≡ 0) → Lost g n Z L A T 0
@@ -55,7 +56,8 @@ lost-first g n Z L A T all none flat =
       escapes = λ i s li l z. absurd (both-ways (Z s) z (all s l));
       unused = λ s z. none s;
       flat = λ s e l. flat s;
-      left = omega (arith, count-most n Z) }
+      left = omega (arith, count-most n Z);
+    }
 
 pub middle-mono : (g : Game) (W Z : Set) (j : ℕ) (Y : Set) (s : ℕ) → Within W Z → Middle g W j Y s → Middle g Z j Y s
 middle-mono g W Z j Y s le (i, X, kept, x) = (i, X, (λ t h. step t (kept t h)), x)
@@ -70,10 +72,9 @@ no-promise zero i l = inr (refl, omega arith)
 no-promise (suc k) i l = inl l
 
 module _ (g : Game) (n : ℕ) (bound : (s e a : ℕ) → g .after s e a < n) (Z : Set) (zone-below : (s : ℕ) → Z s ≡ true → s < n)
-  (L A : ℕ → ℕ) (turns₀ turns₁ : List ℕ) (next : ℕ) (inv : Lost g n Z L A (row turns₀ n) next)
-  (j : ℕ) (a-goal : j < g .goals) (Y : Set) (R W : ℕ → ℕ) (att : Attained g n Z j Y R W turns₀ turns₁)
-  (Z′ : Set) (L′ A′ : ℕ → ℕ) (m : Marked (New Z Y) (Old Z Y) n false Z Z′ next L L′ j A A′) where
-
+    (L A : ℕ → ℕ) (turns₀ turns₁ : List ℕ) (next : ℕ) (inv : Lost g n Z L A (row turns₀ n) next)
+    (j : ℕ) (a-goal : j < g .goals) (Y : Set) (R W : ℕ → ℕ) (att : Attained g n Z j Y R W turns₀ turns₁)
+    (Z′ : Set) (L′ A′ : ℕ → ℕ) (m : Marked (New Z Y) (Old Z Y) n false Z Z′ next L L′ j A A′) where
   abbrev pub T₁ : ℕ → ℕ → ℕ
   T₁ = row turns₁ n
 
@@ -109,10 +110,16 @@ module _ (g : Game) (n : ℕ) (bound : (s e a : ℕ) → g .after s e a < n) (Z 
       ((kept g i s ≡ true) ⊎ ((kept g i s ≡ false) × (0 < g .promises) × (T₁ i t < T₁ i s)) ⊎ ((g .promises ≡ 0) × (T₁ i t ≡ T₁ i s))) →
       Free g (losing n Z′ L′ A′ (λ _ _. 0) T₁) i s t
   level i s t ls ds no-goal l z o onward =
-      let w = new t z o in
-      (is-known t l (w .0),
-       inr (w .1 ∙ sym ls, w .2 ∙ sym ds, subst (λ (x : ℕ). x < g .goals) (sym ds) a-goal,
-       subst (λ (x : ℕ). g .goal x s ≡ false) (sym ds) no-goal, onward))
+      let w = new t z o in (
+        is-known t l (w .0),
+        inr (
+          w .1 ∙ sym ls,
+          w .2 ∙ sym ds,
+          subst (λ (x : ℕ). x < g .goals) (sym ds) a-goal,
+          subst (λ (x : ℕ). g .goal x s ≡ false) (sym ds) no-goal,
+          onward,
+        ),
+      )
 
   module _ (i s : ℕ) (li : i < turns (g .promises)) (l : s < n) (z : Z s ≡ true) (o : Y s ≡ false) where
     ls : L′ s ≡ next
@@ -153,13 +160,15 @@ module _ (g : Game) (n : ℕ) (bound : (s e a : ℕ) → g .after s e a < n) (Z 
     unkept : g .goal j s ≡ false → kept g i s ≡ false → (i < g .promises) ⊎ ((g .promises ≡ 0) × (i ≡ 0)) →
         Cpre g (Barred g n Z′ L′ A′ T₁ i s) s → ⊥
     unkept no-goal no-kept (inl lt) c =
-        att .turned i s lt z o
-        (lt, waits lt no-kept,
-         cpre-below g n (Barred g n Z′ L′ A′ T₁ i s) (Later Z Y (T₁ i) (T₁ i s)) s bound (in-later no-goal no-kept (omega arith)) c)
+        att .turned i s lt z o (
+          lt,
+          waits lt no-kept,
+          cpre-below g n (Barred g n Z′ L′ A′ T₁ i s) (Later Z Y (T₁ i) (T₁ i s)) s bound (in-later no-goal no-kept (omega arith)) c,
+        )
     unkept no-goal no-kept (inr (e, i0)) c =
         not-forced
         (cpre-below g n (Barred g n Z′ L′ A′ T₁ i s) (In Y) s bound
-         (in-reach no-goal (λ t lt. inr (inr (e, zero-turn t lt ∙ sym (zero-turn s l))))) c)
+        (in-reach no-goal (λ t lt. inr (inr (e, zero-turn t lt ∙ sym (zero-turn s l))))) c)
       where
         zero-turn : (t : ℕ) → t < n → T₁ i t ≡ 0
         zero-turn t lt = subst (λ (x : ℕ). T₁ x t ≡ 0) (sym i0) (flat-now t e lt)
@@ -181,10 +190,10 @@ module _ (g : Game) (n : ℕ) (bound : (s e a : ℕ) → g .after s e a < n) (Z 
   dropped-before i s li l z c =
       inv .escapes i s li l z
       (cpre-below g n (Barred g n Z′ L′ A′ T₁ i s) (Barred g n Z L A (row turns₀ n) i s) s bound
-       (λ t lt bar free.
-          let zt : Z t ≡ false = not-true (Z t) (and-parts (ltb t n) (not (Z t)) (free .0) .1) in
-          bar (free-same g n Z Z′ L L′ A A′ (λ _ _. 0) (λ _ _. 0) (row turns₀ n) T₁ i s t (λ h. old t h .0)
-            (old s z .1) (old t zt .1) (old s z .2) (old t zt .2) (turn-same i s li l z) (turn-same i t li lt zt) free)) c)
+      (λ t lt bar free.
+      let zt : Z t ≡ false = not-true (Z t) (and-parts (ltb t n) (not (Z t)) (free .0) .1) in
+      bar (free-same g n Z Z′ L L′ A A′ (λ _ _. 0) (λ _ _. 0) (row turns₀ n) T₁ i s t (λ h. old t h .0)
+      (old s z .1) (old t zt .1) (old s z .2) (old t zt .2) (turn-same i s li l z) (turn-same i t li lt zt) free)) c)
 
   stays-in : (V : Set) → Kept (Outer g n) V → Within V Z′
   stays-in V kept s v =
@@ -198,17 +207,18 @@ module _ (g : Game) (n : ℕ) (bound : (s e a : ℕ) → g .after s e a < n) (Z 
       record {
         most = stays-in;
         layered = λ s l z′.
-          ⊎-elim (λ c. omega (arith, c .2, some s (c .0))) (λ c. omega (arith, c .2, inv .layered s l (sym (c .1) ∙ z′))) (cases s);
+            ⊎-elim (λ c. omega (arith, c .2, some s (c .0))) (λ c. omega (arith, c .2, inv .layered s l (sym (c .1) ∙ z′))) (cases s);
         avoided = λ s l z′.
-          ⊎-elim (λ c. subst (λ (x : ℕ). x < g .goals) (sym (c .3)) a-goal)
-          (λ c. subst (λ (x : ℕ). x < g .goals) (sym (c .3)) (inv .avoided s l (sym (c .1) ∙ z′))) (cases s);
+            ⊎-elim (λ c. subst (λ (x : ℕ). x < g .goals) (sym (c .3)) a-goal)
+            (λ c. subst (λ (x : ℕ). x < g .goals) (sym (c .3)) (inv .avoided s l (sym (c .1) ∙ z′))) (cases s);
         escapes = λ i s li l z′.
-          ⊎-elim (λ c. dropped-now i s li l (c .0 .0) (c .0 .1)) (λ c. dropped-before i s li l (sym (c .1) ∙ z′)) (cases s);
+            ⊎-elim (λ c. dropped-now i s li l (c .0 .0) (c .0 .1)) (λ c. dropped-before i s li l (sym (c .1) ∙ z′)) (cases s);
         unused = λ s z′.
-          ⊎-elim (λ c. absurd (both-ways (Z′ s) (c .1) z′))
-          (λ c. let u = inv .unused s (sym (c .1) ∙ z′) in (c .2 ∙ u .0, c .3 ∙ u .1)) (cases s);
+            ⊎-elim (λ c. absurd (both-ways (Z′ s) (c .1) z′))
+            (λ c. let u = inv .unused s (sym (c .1) ∙ z′) in (c .2 ∙ u .0, c .3 ∙ u .1)) (cases s);
         flat = flat-now;
-        left = omega (arith, few, inv .left) }
+        left = omega (arith, few, inv .left);
+      }
 
 -- where all of Z can reach the goal, the goal is won
 pub won-now : (g : Game) (n : ℕ) (Z : Set) (j : ℕ) (Y : Set) (R W : ℕ → ℕ) (turns₀ turns₁ : List ℕ) → Attained g n Z j Y R W turns₀ turns₁ →
@@ -216,9 +226,10 @@ pub won-now : (g : Game) (n : ℕ) (Z : Set) (j : ℕ) (Y : Set) (R W : ℕ → 
 won-now g n Z j Y R W turns₀ turns₁ att all =
     record {
       fine = λ s z.
-        cpre-mono g (Fine g Z j Y R W s) (Fine g Z j Z R W s) s (λ t f. (f .0, λ h. (f .0, f .1 h .1))) (att .fine s (all s z));
+          cpre-mono g (Fine g Z j Y R W s) (Fine g Z j Z R W s) s (λ t f. (f .0, λ h. (f .0, f .1 h .1))) (att .fine s (all s z));
       within = λ V closed s z. att .least .fewest V closed s (all s z);
-      unused = λ s l z. att .unused s (⊎-elim (λ y. absurd (both-ways (Z s) z (att .inside s y))) (λ y. y) (cases-bool (Y s))) }
+      unused = λ s l z. att .unused s (⊎-elim (λ y. absurd (both-ways (Z s) z (att .inside s y))) (λ y. y) (cases-bool (Y s)));
+    }
 
 -- the same, for ranks and promises waited for that are the same at each state
 pub won-same : (g : Game) (n : ℕ) (Z : Set) (j : ℕ) (R W R′ W′ : ℕ → ℕ) → ((s : ℕ) → Z s ≡ true → s < n) →
@@ -226,10 +237,11 @@ pub won-same : (g : Game) (n : ℕ) (Z : Set) (j : ℕ) (R W R′ W′ : ℕ →
 won-same g n Z j R W R′ W′ below r w won =
     record {
       fine = λ s z.
-        cpre-mono g (Fine g Z j Z R W s) (Fine g Z j Z R′ W′ s) s
-        (λ t f. (f .0, λ h. (f .0, same s t (below s z) (below t (f .0)) (f .1 h .1)))) (won .fine s z);
+          cpre-mono g (Fine g Z j Z R W s) (Fine g Z j Z R′ W′ s) s
+          (λ t f. (f .0, λ h. (f .0, same s t (below s z) (below t (f .0)) (f .1 h .1)))) (won .fine s z);
       within = won .within;
-      unused = λ s l z. let u = won .unused s l z in (r s l ∙ u .0, w s l ∙ u .1) }
+      unused = λ s l z. let u = won .unused s l z in (r s l ∙ u .0, w s l ∙ u .1);
+    }
   where
     same : (s t : ℕ) → s < n → t < n → Falls g R W s t → Falls g R′ W′ s t
     same s t ls lt f =

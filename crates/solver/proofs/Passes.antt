@@ -27,15 +27,14 @@ passed-none g n zone layers avoids ranks waits turned next inv =
     record { lost = inv; up = omega arith; same = λ _. refl; won = λ q k l. absurd (omega arith) }
 
 module _ (g : Game) (n : ℕ) (bound : (s e a : ℕ) → g .after s e a < n) (zone₀ : List ℕ) (next₀ j : ℕ)
-  (zone layers avoids ranks waits turned : List ℕ) (next : ℕ)
-  (inv : Passed g n zone₀ next₀ j zone layers avoids ranks waits turned next) (a-goal : j < g .goals) (fits : room zone ≡ n)
-  (reach : List ℕ) (R W : ℕ → ℕ) (turned′ : List ℕ) (att : Attained g n (member zone) j (member reach) R W turned turned′)
-  (ranks′ waits′ : List ℕ)
-  (r-here : (s : ℕ) → s < n → row ranks′ n j s ≡ R s) (r-there : (k s : ℕ) → (k ≡ j → ⊥) → s < n → row ranks′ n k s ≡ row ranks n k s)
-  (w-here : (s : ℕ) → s < n → row waits′ n j s ≡ W s) (w-there : (k s : ℕ) → (k ≡ j → ⊥) → s < n → row waits′ n k s ≡ row waits n k s)
-  (zone′ layers′ avoids′ : List ℕ) (next′ : ℕ)
-  (d : Dropped n zone reach layers avoids next j n zone′ layers′ avoids′ next′) where
-
+    (zone layers avoids ranks waits turned : List ℕ) (next : ℕ)
+    (inv : Passed g n zone₀ next₀ j zone layers avoids ranks waits turned next) (a-goal : j < g .goals) (fits : room zone ≡ n)
+    (reach : List ℕ) (R W : ℕ → ℕ) (turned′ : List ℕ) (att : Attained g n (member zone) j (member reach) R W turned turned′)
+    (ranks′ waits′ : List ℕ)
+    (r-here : (s : ℕ) → s < n → row ranks′ n j s ≡ R s) (r-there : (k s : ℕ) → (k ≡ j → ⊥) → s < n → row ranks′ n k s ≡ row ranks n k s)
+    (w-here : (s : ℕ) → s < n → row waits′ n j s ≡ W s) (w-there : (k s : ℕ) → (k ≡ j → ⊥) → s < n → row waits′ n k s ≡ row waits n k s)
+    (zone′ layers′ avoids′ : List ℕ) (next′ : ℕ)
+    (d : Dropped n zone reach layers avoids next j n zone′ layers′ avoids′ next′) where
   below : (s : ℕ) → member zone s ≡ true → s < n
   below s z = omega (arith, member-below zone s z)
 
@@ -53,27 +52,28 @@ module _ (g : Game) (n : ℕ) (bound : (s e a : ℕ) → g .after s e a < n) (zo
     here =
         subst (λ (l : List ℕ). Won g n (member l) j (row ranks′ n j) (row waits′ n j)) (inv .same no-layer)
         (won-same g n (member zone) j R W (row ranks′ n j) (row waits′ n j) below r-here w-here
-         (won-now g n (member zone) j (member reach) R W turned turned′ att
-          (dropped-quiet n zone reach layers avoids next j zone′ layers′ avoids′ next′ fits d none)))
+        (won-now g n (member zone) j (member reach) R W turned turned′ att
+        (dropped-quiet n zone reach layers avoids next j zone′ layers′ avoids′ next′ fits d none)))
 
     won-more : (k : ℕ) → k < j + 1 → Won g n (member zone₀) k (row ranks′ n k) (row waits′ n k)
     won-more k l =
         ⊎-elim (λ p. subst (λ (x : ℕ). Won g n (member zone₀) x (row ranks′ n x) (row waits′ n x)) (sym p) here)
         (λ ne.
-           won-same g n (member zone₀) k (row ranks n k) (row waits n k) (row ranks′ n k) (row waits′ n k) below₀
-           (λ s m. r-there k s ne m) (λ s m. w-there k s ne m) (inv .won no-layer k (omega arith)))
+        won-same g n (member zone₀) k (row ranks n k) (row waits n k) (row ranks′ n k) (row waits′ n k) below₀
+        (λ s m. r-there k s ne m) (λ s m. w-there k s ne m) (inv .won no-layer k (omega arith)))
         (cases-eq k j)
 
   pub passed-more : Passed g n zone₀ next₀ (j + 1) zone′ layers′ avoids′ ranks′ waits′ turned′ next′
   passed-more =
       record {
         lost =
-          lost-drop g n bound (member zone) below (cell layers) (cell avoids) turned turned′ next (inv .lost) j a-goal (member reach) R W att
-          (member zone′) (cell layers′) (cell avoids′) (d .marked) next′ (d .up) (d .left)
-          (dropped-some n zone reach layers avoids next j zone′ layers′ avoids′ next′ fits d);
+            lost-drop g n bound (member zone) below (cell layers) (cell avoids) turned turned′ next (inv .lost) j a-goal (member reach) R W att
+            (member zone′) (cell layers′) (cell avoids′) (d .marked) next′ (d .up) (d .left)
+            (dropped-some n zone reach layers avoids next j zone′ layers′ avoids′ next′ fits d);
         up = omega (arith, inv .up, d .up);
         same = λ q. d .same (none q) ∙ inv .same (no-layer q);
-        won = won-more }
+        won = won-more;
+      }
 
 pub solved : (g : Game) (n : ℕ) (zone : List ℕ) (next upto : ℕ) (zone′ layers′ avoids′ ranks′ waits′ turned′ : List ℕ) (next′ : ℕ) →
     room zone′ ≡ n → upto ≡ g .goals → Passed g n zone next upto zone′ layers′ avoids′ ranks′ waits′ turned′ next′ → next′ ≡ next →
@@ -82,11 +82,13 @@ solved g n zone next upto zone′ layers′ avoids′ ranks′ waits′ turned�
     record {
       region = record {
         kept = λ s z. (omega (arith, member-below zone′ s z), λ j l Y closed. won j l .within Y closed s z);
-        most = p .lost .most };
+        most = p .lost .most;
+      };
       won = won;
       escapes = p .lost .escapes;
       unused = p .lost .unused;
-      flat = p .lost .flat }
+      flat = p .lost .flat;
+    }
   where
     won : (j : ℕ) → j < g .goals → Won g n (member zone′) j (row ranks′ n j) (row waits′ n j)
     won j l =

@@ -35,7 +35,8 @@ ranked-none g n Z j Y R W none zero-all =
       below = λ s y. absurd (both-ways (Y s) (none s) y);
       fine = λ s y. absurd (both-ways (Y s) (none s) y);
       unused = λ s y. zero-all s;
-      left = omega arith }
+      left = omega arith;
+    }
 
 -- if X lies within Y, a stay within X counts for no more than a step into Y
 pub grounded : (g : Game) (n : ℕ) (Z : Set) (j : ℕ) (Y : Set) (R W : ℕ → ℕ) (next : ℕ) → Ranked g n Z j Y R W next →
@@ -48,9 +49,8 @@ grounded g n Z j Y R W next inv s y = go (cases-bool (g .goal j s))
 
 -- Y₀ is what the round began with, X a set that the inner step keeps over it
 module _ (g : Game) (n : ℕ) (Z : Set) (j : ℕ) (Y₀ Y : Set) (R W : ℕ → ℕ) (next : ℕ) (inv : Ranked g n Z j Y R W next)
-  (began : Within Y₀ Y) (i : ℕ) (X : Set) (kept : Kept (Inner g Z (Base g Z j Y₀) i) X) (within : (s : ℕ) → X s ≡ true → s < n)
-  (Y′ : Set) (R′ W′ : ℕ → ℕ) (m : Marked (New X Y) (Old X Y) n true Y Y′ next R R′ i W W′) where
-
+    (began : Within Y₀ Y) (i : ℕ) (X : Set) (kept : Kept (Inner g Z (Base g Z j Y₀) i) X) (within : (s : ℕ) → X s ≡ true → s < n)
+    (Y′ : Set) (R′ W′ : ℕ → ℕ) (m : Marked (New X Y) (Old X Y) n true Y Y′ next R R′ i W W′) where
   cases : (s : ℕ) → (New X Y s × (Y′ s ≡ true) × (R′ s ≡ next) × (W′ s ≡ i)) ⊎ (Old X Y s × (Y′ s ≡ Y s) × (R′ s ≡ R s) × (W′ s ≡ W s))
   cases s =
       ⊎-elim (λ l. m .each s l)
@@ -78,10 +78,18 @@ module _ (g : Game) (n : ℕ) (Z : Set) (j : ℕ) (Y₀ Y : Set) (R W : ℕ → 
   to-waiting : (s t : ℕ) → R′ s ≡ next → W′ s ≡ i → i < g .promises → g .promise i s ≡ false → X t ≡ true → Fine g Z j Y′ R′ W′ s t
   to-waiting s t rs ws ip p x =
       ⊎-elim
-      (λ c.
-         (kept t x .0,
-          λ h. (c .1, inr (c .2 ∙ sym rs, c .3 ∙ sym ws, subst (λ (k : ℕ). k < g .promises) (sym ws) ip,
-              subst (λ (k : ℕ). g .promise k s ≡ false) (sym ws) p))))
+      (λ c. (
+        kept t x .0,
+        λ h. (
+          c .1,
+          inr (
+            c .2 ∙ sym rs,
+            c .3 ∙ sym ws,
+            subst (λ (k : ℕ). k < g .promises) (sym ws) ip,
+            subst (λ (k : ℕ). g .promise k s ≡ false) (sym ws) p,
+          ),
+        ),
+      ))
       (λ c. to-before s t rs (c .0 x)) (cases t)
 
   entered : (s : ℕ) → R′ s ≡ next → W′ s ≡ i → Inner g Z (Base g Z j Y₀) i X s → Cpre g (Fine g Z j Y′ R′ W′ s) s
@@ -105,20 +113,24 @@ module _ (g : Game) (n : ℕ) (Z : Set) (j : ℕ) (Y₀ Y : Set) (R W : ℕ → 
       record {
         inside = λ s y. ⊎-elim (λ c. kept s (c .0 .0) .0) (λ c. inv .inside s (sym (c .1) ∙ y)) (cases s);
         fewest = λ V closed s y.
-          ⊎-elim
-          (λ c.
-             closed s (i, X,
-             (λ t x. inner-mono g Z (Base g Z j Y₀) (Base g Z j V) i X X t
-                (base-mono g Z j Y₀ V t (λ u h. inv .fewest V closed u (began u h))) (λ u h. h) (kept t x)),
-             c .0 .0))
-          (λ c. inv .fewest V closed s (sym (c .1) ∙ y)) (cases s);
+            ⊎-elim
+            (λ c.
+            closed s (
+              i,
+              X,
+              (λ t x. inner-mono g Z (Base g Z j Y₀) (Base g Z j V) i X X t
+                  (base-mono g Z j Y₀ V t (λ u h. inv .fewest V closed u (began u h))) (λ u h. h) (kept t x)),
+              c .0 .0,
+            ))
+            (λ c. inv .fewest V closed s (sym (c .1) ∙ y)) (cases s);
         below = λ s y.
-          ⊎-elim (λ c. omega (arith, c .2, some s (c .0))) (λ c. omega (arith, c .2, inv .below s (sym (c .1) ∙ y))) (cases s);
+            ⊎-elim (λ c. omega (arith, c .2, some s (c .0))) (λ c. omega (arith, c .2, inv .below s (sym (c .1) ∙ y))) (cases s);
         fine = λ s y. fine-now s y (cases-bool (Y s));
         unused = λ s y.
-          ⊎-elim (λ c. absurd (both-ways (Y′ s) y (c .1)))
-          (λ c. let u = inv .unused s (sym (c .1) ∙ y) in (c .2 ∙ u .0, c .3 ∙ u .1)) (cases s);
-        left = omega (arith, few, inv .left) }
+            ⊎-elim (λ c. absurd (both-ways (Y′ s) y (c .1)))
+            (λ c. let u = inv .unused s (sym (c .1) ∙ y) in (c .2 ∙ u .0, c .3 ∙ u .1)) (cases s);
+        left = omega (arith, few, inv .left);
+      }
 
 pub settled-least : (g : Game) (n : ℕ) (Z : Set) (j : ℕ) (Y : Set) (R W : ℕ → ℕ) (next : ℕ) (turns : List ℕ) →
     Ranked g n Z j Y R W next → Settled g n Z j Y turns (g .promises) → Least (Middle g Z j) Y

@@ -51,21 +51,23 @@ pub rounded-base : (g : Game) (n : ℕ) (Z : Set) (j : ℕ) (base reach ranks wa
 rounded-base g n Z j base reach ranks waits turns next wait reach′ ranks′ waits′ next′ fits is inv e =
     record {
       ranked =
-        ranked-enter g n Z j (member reach) (member reach) (cell ranks) (cell waits) next inv (λ s y. y) wait (member base) kept within
-        (member reach′) (cell ranks′) (cell waits′) (e .marked) next′ (e .up) (e .left)
-        (entered-some n base reach ranks waits next wait reach′ ranks′ waits′ next′ fits e);
+          ranked-enter g n Z j (member reach) (member reach) (cell ranks) (cell waits) next inv (λ s y. y) wait (member base) kept within
+          (member reach′) (cell ranks′) (cell waits′) (e .marked) next′ (e .up) (e .left)
+          (entered-some n base reach ranks waits next wait reach′ ranks′ waits′ next′ fits e);
       began =
-        grows g n Z j (member reach) (member reach) (cell ranks) (cell waits) next inv (λ s y. y) wait (member base) kept within
-        (member reach′) (cell ranks′) (cell waits′) (e .marked);
+          grows g n Z j (member reach) (member reach) (cell ranks) (cell waits) next inv (λ s y. y) wait (member base) kept within
+          (member reach′) (cell ranks′) (cell waits′) (e .marked);
       up = e .up;
       same = e .same;
       settled = λ q.
-        record {
-          base = λ s z b. entered-none n base reach ranks waits next wait reach′ ranks′ waits′ next′ fits e q s (is s .1 (z, b));
-          stays = λ i l. absurd (omega arith);
-          turned = λ i s l. absurd (omega arith) };
+          record {
+            base = λ s z b. entered-none n base reach ranks waits next wait reach′ ranks′ waits′ next′ fits e q s (is s .1 (z, b));
+            stays = λ i l. absurd (omega arith);
+            turned = λ i s l. absurd (omega arith);
+          };
       outside = λ i s l m z. refl;
-      beyond = λ i s l m. refl }
+      beyond = λ i s l m. refl;
+    }
   where
     kept : Kept (Inner g Z (Base g Z j (member reach)) wait) (member base)
     kept s f = let p = is s .0 f in (p .0, inl (p .1))
@@ -75,18 +77,17 @@ rounded-base g n Z j base reach ranks waits turns next wait reach′ ranks′ wa
 
 -- one more promise: `stay` is what waits for it, T its row of turns before and T′ after
 module _ (g : Game) (n : ℕ) (Z : Set) (j : ℕ) (base reach₀ turns₀ : List ℕ) (next i : ℕ) (reach ranks waits turns : List ℕ) (rank : ℕ)
-  (a-promise : i < g .promises)
-  (zone-below : (s : ℕ) → Z s ≡ true → s < n)
-  (is : IsBase g Z j (member reach₀) (member base))
-  (inv : Rounded g n Z j reach₀ turns₀ next i reach ranks waits turns rank)
-  (stay : List ℕ) (fits : room stay ≡ n) (T T′ : ℕ → ℕ) (st : Stayed g Z (member base) i (member stay) T T′)
-  (turns′ : List ℕ)
-  (was : (s : ℕ) → s < n → T s ≡ row turns n i s)
-  (here : (s : ℕ) → s < n → row turns′ n i s ≡ T′ s)
-  (there : (k s : ℕ) → (k ≡ i → ⊥) → s < n → row turns′ n k s ≡ row turns n k s)
-  (reach′ ranks′ waits′ : List ℕ) (next′ : ℕ)
-  (e : Entered n stay reach ranks waits rank i n reach′ ranks′ waits′ next′) where
-
+    (a-promise : i < g .promises)
+    (zone-below : (s : ℕ) → Z s ≡ true → s < n)
+    (is : IsBase g Z j (member reach₀) (member base))
+    (inv : Rounded g n Z j reach₀ turns₀ next i reach ranks waits turns rank)
+    (stay : List ℕ) (fits : room stay ≡ n) (T T′ : ℕ → ℕ) (st : Stayed g Z (member base) i (member stay) T T′)
+    (turns′ : List ℕ)
+    (was : (s : ℕ) → s < n → T s ≡ row turns n i s)
+    (here : (s : ℕ) → s < n → row turns′ n i s ≡ T′ s)
+    (there : (k s : ℕ) → (k ≡ i → ⊥) → s < n → row turns′ n k s ≡ row turns n k s)
+    (reach′ ranks′ waits′ : List ℕ) (next′ : ℕ)
+    (e : Entered n stay reach ranks waits rank i n reach′ ranks′ waits′ next′) where
   kept : Kept (Inner g Z (Base g Z j (member reach₀)) i) (member stay)
   kept s x =
       inner-mono g Z (In (member base)) (Base g Z j (member reach₀)) i (member stay) (member stay) s
@@ -117,7 +118,7 @@ module _ (g : Game) (n : ℕ) (Z : Set) (j : ℕ) (base reach₀ turns₀ : List
     most : (X : Set) → Kept (Inner g Z (Base g Z j (member reach₀)) i) X → Within X (member reach₀)
     most X k s x =
         stay-reached s (st .greatest .most X (λ t h.
-            inner-mono g Z (Base g Z j (member reach₀)) (In (member base)) i X X t (λ b. is t .1 (k t h .0, b)) (λ u v. v) (k t h)) s x)
+        inner-mono g Z (Base g Z j (member reach₀)) (In (member base)) i X X t (λ b. is t .1 (k t h .0, b)) (λ u v. v) (k t h)) s x)
 
     turned-here : (s : ℕ) → Z s ≡ true → member reach₀ s ≡ false → Waiting g i (Later Z (member reach₀) (row turns′ n i) (row turns′ n i s)) s → ⊥
     turned-here s z o w = go (cases-bool (member stay s))
@@ -145,38 +146,40 @@ module _ (g : Game) (n : ℕ) (Z : Set) (j : ℕ) (base reach₀ turns₀ : List
         record {
           base = inv .settled no-rank .base;
           stays = λ k l.
-            ⊎-elim (λ p. subst (λ (m : ℕ). (X : Set) → Kept (Inner g Z (Base g Z j (member reach₀)) m) X → Within X (member reach₀)) (sym p) most)
-            (λ ne. inv .settled no-rank .stays k (omega arith)) (cases-eq k i);
+              ⊎-elim (λ p. subst (λ (m : ℕ). (X : Set) → Kept (Inner g Z (Base g Z j (member reach₀)) m) X → Within X (member reach₀)) (sym p) most)
+              (λ ne. inv .settled no-rank .stays k (omega arith)) (cases-eq k i);
           turned = λ k s l z o.
-            ⊎-elim
-            (λ p. subst (λ (m : ℕ). Waiting g m (Later Z (member reach₀) (row turns′ n m) (row turns′ n m s)) s → ⊥) (sym p) (turned-here s z o))
-            (λ ne. turned-there k s (omega arith) z o) (cases-eq k i) }
+              ⊎-elim
+              (λ p. subst (λ (m : ℕ). Waiting g m (Later Z (member reach₀) (row turns′ n m) (row turns′ n m s)) s → ⊥) (sym p) (turned-here s z o))
+              (λ ne. turned-there k s (omega arith) z o) (cases-eq k i);
+        }
 
   pub rounded-more : Rounded g n Z j reach₀ turns₀ next (i + 1) reach′ ranks′ waits′ turns′ next′
   rounded-more =
       record {
         ranked =
-          ranked-enter g n Z j (member reach₀) (member reach) (cell ranks) (cell waits) rank (inv .ranked) (inv .began) i (member stay) kept within
-          (member reach′) (cell ranks′) (cell waits′) (e .marked) next′ (e .up) (e .left)
-          (entered-some n stay reach ranks waits rank i reach′ ranks′ waits′ next′ fits e);
+            ranked-enter g n Z j (member reach₀) (member reach) (cell ranks) (cell waits) rank (inv .ranked) (inv .began) i (member stay) kept within
+            (member reach′) (cell ranks′) (cell waits′) (e .marked) next′ (e .up) (e .left)
+            (entered-some n stay reach ranks waits rank i reach′ ranks′ waits′ next′ fits e);
         began = λ s y.
-          grows g n Z j (member reach₀) (member reach) (cell ranks) (cell waits) rank (inv .ranked) (inv .began) i (member stay) kept within
-          (member reach′) (cell ranks′) (cell waits′) (e .marked) s (inv .began s y);
+            grows g n Z j (member reach₀) (member reach) (cell ranks) (cell waits) rank (inv .ranked) (inv .began) i (member stay) kept within
+            (member reach′) (cell ranks′) (cell waits′) (e .marked) s (inv .began s y);
         up = omega (arith, inv .up, e .up);
         same = λ q. e .same (none q) ∙ inv .same (no-rank q);
         settled = settled-more;
         outside = λ k s l m z.
-          ⊎-elim
-          (λ p.
-             subst (λ (x : ℕ). row turns′ n x s ≡ row turns₀ n x s) (sym p)
-             (here s m ∙ (st .outside s z ∙ (was s m ∙ inv .outside i s (subst (λ (x : ℕ). x < g .promises) p l) m z))))
-          (λ ne. there k s ne m ∙ inv .outside k s l m z) (cases-eq k i);
-        beyond = λ k s l m. there k s (λ p. omega arith) m ∙ inv .beyond k s l m }
+            ⊎-elim
+            (λ p.
+            subst (λ (x : ℕ). row turns′ n x s ≡ row turns₀ n x s) (sym p)
+            (here s m ∙ (st .outside s z ∙ (was s m ∙ inv .outside i s (subst (λ (x : ℕ). x < g .promises) p l) m z))))
+            (λ ne. there k s ne m ∙ inv .outside k s l m z) (cases-eq k i);
+        beyond = λ k s l m. there k s (λ p. omega arith) m ∙ inv .beyond k s l m;
+      }
 
 -- What the loop over the promises keeps: from whatever the round began with, what holds after the base holds on. (A
 -- loop's invariant cannot name what the slices held when the function began, only where the loop did.)
 pub record Rounding (g : Game) (n : ℕ) (Z : Set) (j : ℕ) (base turns₀ : List ℕ) (next : ℕ) (reach₁ ranks₁ waits₁ : List ℕ) (rank₁ : ℕ)
-  (i : ℕ) (reach ranks waits turns : List ℕ) (rank : ℕ) : Type 0 where
+    (i : ℕ) (reach ranks waits turns : List ℕ) (rank : ℕ) : Type 0 where
   pub on : (reach₀ : List ℕ) → IsBase g Z j (member reach₀) (member base) →
       Rounded g n Z j reach₀ turns₀ next 0 reach₁ ranks₁ waits₁ turns₀ rank₁ →
       Rounded g n Z j reach₀ turns₀ next i reach ranks waits turns rank

@@ -52,7 +52,7 @@ pub cell-zeros : (xs : List ℕ) (n s : ℕ) → xs ≡ replicate n 0 → cell x
 cell-zeros xs n s e =
     ap (λ (l : List ℕ). cell l s) e
     ∙ ⊎-elim (λ l. getD-replicate n s 0 0 l)
-      (λ l. getD-past (replicate n 0) s 0 (omega (arith, length-replicate {A = ℕ} n 0))) (cases-lt s n)
+    (λ l. getD-past (replicate n 0) s 0 (omega (arith, length-replicate {A = ℕ} n 0))) (cases-lt s n)
 
 -- a set from which every state was taken out
 pub filled-none : (before after : List ℕ) → Filled before false after → (s : ℕ) → member after s ≡ false

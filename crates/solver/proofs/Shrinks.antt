@@ -37,20 +37,22 @@ pub shrunk-none : (g : Game) (F : Set) (i n : ℕ) (before turns : List ℕ) (tu
 shrunk-none g F i n before turns turn stay e =
     subst (λ (x : List ℕ). Shrunk g F i n before turns turn 0 x turns 0) e
     (record {
-       marked = marked-none _ _ false (member before) turn (cell turns) turn (cell turns);
-       counted = omega arith;
-       same = λ _. refl;
-       few = omega arith })
+      marked = marked-none _ _ false (member before) turn (cell turns) turn (cell turns);
+      counted = omega arith;
+      same = λ _. refl;
+      few = omega arith;
+    })
 
 module _ (g : Game) (F : Set) (i n : ℕ) (before turns₀ : List ℕ) (turn s : ℕ) (stay turns : List ℕ) (removed : ℕ)
-  (inv : Shrunk g F i n before turns₀ turn s stay turns removed) where
+    (inv : Shrunk g F i n before turns₀ turn s stay turns removed) where
   pub shrunk-miss : Remains g F i (member before) s → Shrunk g F i n before turns₀ turn (s + 1) stay turns removed
   shrunk-miss r =
       record {
         marked = marked-miss _ _ s false _ _ turn _ _ turn _ _ (inv .marked) r;
         counted = inv .counted;
         same = inv .same;
-        few = omega (arith, inv .few) }
+        few = omega (arith, inv .few);
+      }
 
   pub shrunk-hit : (stay′ : List ℕ) → s < n → s < length turns → Leaves g F i (member before) s → Put stay s false stay′ →
       Shrunk g F i n before turns₀ turn (s + 1) stay′ (set turns s turn) (removed + 1)
@@ -58,9 +60,10 @@ module _ (g : Game) (F : Set) (i n : ℕ) (before turns₀ : List ℕ) (turn s :
       let cX = put-changed stay stay′ s false p in
       let cT = set-changed turns s turn lt in
       let out : count n (member stay′) + 1 ≡ count n (member stay) =
-        count-out n (member stay) (member stay′) s l (inv .marked .rest s (omega arith) .0 ∙ leave .0) (cX .0) (cX .1) in
+      count-out n (member stay) (member stay′) s l (inv .marked .rest s (omega arith) .0 ∙ leave .0) (cX .0) (cX .1) in
       record {
         marked = marked-hit _ _ s false _ _ _ turn _ _ _ turn _ _ _ (inv .marked) leave cX cT cT;
         counted = omega (arith, out, inv .counted);
         same = λ e. absurd (omega arith);
-        few = omega (arith, inv .few) }
+        few = omega (arith, inv .few);
+      }

@@ -27,10 +27,9 @@ unfolding Cpre
 forced g P s e c h = c e h
 
 module _ (g : Game) (n m : ℕ) (bound : (s e a : ℕ) → g .after s e a < n) (some-move : (s e : ℕ) → g .moves s e ≡ true → e < m)
-  (known answers ranks waits layers avoids turned₀ : List ℕ) (fits : room known ≡ n)
-  (so : Solved g n known layers avoids ranks waits turned₀)
-  (an : Answered g n m (member known) (row ranks n) (row waits n) answers (g .goals)) where
-
+    (known answers ranks waits layers avoids turned₀ : List ℕ) (fits : room known ≡ n)
+    (so : Solved g n known layers avoids ranks waits turned₀)
+    (an : Answered g n m (member known) (row ranks n) (row waits n) answers (g .goals)) where
   below : (s : ℕ) → member known s ≡ true → s < n
   below s z = omega (arith, member-below known s z)
 
@@ -44,7 +43,8 @@ module _ (g : Game) (n m : ℕ) (bound : (s e a : ℕ) → g .after s e a < n) (
       record {
         answers = λ j s e lj z h. good j s e lj z h .0;
         goes-on = λ j s e lj z h. good j s e lj z h .1 .0;
-        progress = λ j s e lj z h no-goal. good j s e lj z h .1 .1 no-goal .1 }
+        progress = λ j s e lj z h no-goal. good j s e lj z h .1 .1 no-goal .1;
+      }
 
   module _ (turned moves : List ℕ) (mo : Moved g n (member known) (cell layers) (cell avoids) turned₀ (turns (g .promises)) turned moves) where
     -- a state that the counterstrategy knows
@@ -58,23 +58,24 @@ module _ (g : Game) (n m : ℕ) (bound : (s e a : ℕ) → g .after s e a < n) (
     chosen i s li l z =
         mo .move i s li l .good z
         (λ c.
-           so .escapes i s li l z
-           (cpre-below g n (Shut g (member known) (cell layers) (cell avoids) (row turned n i) i s)
-            (Barred g n (member known) (cell layers) (cell avoids) (row turned₀ n) i s) s bound
-            (λ t lt shut free.
-               let zt : member known t ≡ false = lost t (free .0) .1 in
-               shut (open-same g (member known) (cell layers) (cell avoids) (row turned₀ n i) (row turned n i) i s t
-                 (mo .lost i s l z) (mo .lost i t lt zt) (zt, free .1))) c))
+        so .escapes i s li l z
+        (cpre-below g n (Shut g (member known) (cell layers) (cell avoids) (row turned n i) i s)
+        (Barred g n (member known) (cell layers) (cell avoids) (row turned₀ n) i s) s bound
+        (λ t lt shut free.
+        let zt : member known t ≡ false = lost t (free .0) .1 in
+        shut (open-same g (member known) (cell layers) (cell avoids) (row turned₀ n i) (row turned n i) i s t
+        (mo .lost i s l z) (mo .lost i t lt zt) (zt, free .1))) c))
 
     pub counter-holds : CounterHolds g (way n known layers avoids moves turned)
     counter-holds =
         record {
           moves = λ i s li k. let p = lost s k in chosen i s li (p .0) (p .1) .0;
           goes-on = λ i s a li k h.
-            let p = lost s k in
-            let o = chosen i s li (p .0) (p .1) .1 a h in
-            and-from _ _ (lt-ltb _ n (bound s (row moves n i s) a)) (not-from-false _ (o .0));
-          descends = λ i s a li k h. let p = lost s k in chosen i s li (p .0) (p .1) .1 a h .1 }
+              let p = lost s k in
+              let o = chosen i s li (p .0) (p .1) .1 a h in
+              and-from _ _ (lt-ltb _ n (bound s (row moves n i s) a)) (not-from-false _ (o .0));
+          descends = λ i s a li k h. let p = lost s k in chosen i s li (p .0) (p .1) .1 a h .1;
+        }
 
     pub solution : Solution g n m known answers ranks waits layers avoids moves turned
     solution =
@@ -87,4 +88,6 @@ module _ (g : Game) (n m : ℕ) (bound : (s e a : ℕ) → g .after s e a < n) (
             illegal = λ j s e lj l le h. an j s e lj l le .illegal h;
             rank = λ j s lj l z. so .won j lj .unused s l z;
             layer = λ s l z. so .unused s z;
-            move = λ i s li l z. (mo .move i s li l .outside z, mo .won i s li l z) } }
+            move = λ i s li l z. (mo .move i s li l .outside z, mo .won i s li l z);
+          };
+        }

@@ -53,18 +53,18 @@ module _ (g : Game) (n : ℕ) (Z F : Set) (i : ℕ) where
         most = λ W kept s w. kept s w .0;
         earlier = λ s z x. absurd (both-ways (Z s) x z);
         removed = λ s z x. absurd (both-ways (Z s) x z);
-        left = omega (arith, count-most n Z) }
+        left = omega (arith, count-most n Z);
+      }
 
   module _ (X X′ : Set) (T T′ : ℕ → ℕ) (turn : ℕ) (inv : Staying X T turn)
-    (within : (s : ℕ) → X s ≡ true → s < n)
-    (m : Marked (Leaves g F i X) (Remains g F i X) n false X X′ turn T T′ turn T T′) where
-
+      (within : (s : ℕ) → X s ≡ true → s < n)
+      (m : Marked (Leaves g F i X) (Remains g F i X) n false X X′ turn T T′ turn T T′) where
     -- each state: taken out at this turn, or as it was
     cases : (s : ℕ) → (Leaves g F i X s × (X′ s ≡ false) × (T′ s ≡ turn)) ⊎ ((X′ s ≡ X s) × (T′ s ≡ T s))
     cases s =
         ⊎-elim
         (λ l.
-           ⊎-elim (λ y. inl (y .0, y .1, y .2)) (λ y. inr (y .1, y .2)) (m .each s l))
+        ⊎-elim (λ y. inl (y .0, y .1, y .2)) (λ y. inr (y .1, y .2)) (m .each s l))
         (λ l. inr (m .rest s l .0, m .rest s l .1)) (cases-lt s n)
 
     shrinks : Within X′ X
@@ -91,17 +91,19 @@ module _ (g : Game) (n : ℕ) (Z F : Set) (i : ℕ) where
         (T′ s < turn + 1) × (Waiting g i (Later Z X′ T′ (T′ s)) s → ⊥)
     out-at s z o (inl x) =
         ⊎-elim
-        (λ y.
-           (omega (arith, y .2),
-            λ w. y .0 .1 (inr (waiting-mono g i (Later Z X′ T′ (T′ s)) (In X) s
-                (λ t l. was-in t (subst (λ (r : ℕ). Later Z X′ T′ r t) (y .2) l)) w))))
+        (λ y. (
+          omega (arith, y .2),
+          λ w. y .0 .1 (inr (waiting-mono g i (Later Z X′ T′ (T′ s)) (In X) s
+              (λ t l. was-in t (subst (λ (r : ℕ). Later Z X′ T′ r t) (y .2) l)) w)),
+        ))
         (λ y. absurd (both-ways (X′ s) o (y .0 ∙ x))) (cases s)
     out-at s z o (inr x) =
         ⊎-elim (λ y. absurd (both-ways (X s) x (y .0 .0)))
-        (λ y.
-           (omega (arith, y .1, inv .earlier s z x),
-            λ w. inv .removed s z x (waiting-mono g i (Later Z X′ T′ (T′ s)) (Later Z X T (T s)) s
-                (λ t l. was-later (T s) t (subst (λ (r : ℕ). Later Z X′ T′ r t) (y .1) l)) w)))
+        (λ y. (
+          omega (arith, y .1, inv .earlier s z x),
+          λ w. inv .removed s z x (waiting-mono g i (Later Z X′ T′ (T′ s)) (Later Z X T (T s)) s
+              (λ t l. was-later (T s) t (subst (λ (r : ℕ). Later Z X′ T′ r t) (y .1) l)) w),
+        ))
         (cases s)
 
     pub staying-turn : (k : ℕ) → count n X′ + k ≡ count n X → 0 < k → Staying X′ T′ (turn + 1)
@@ -110,20 +112,23 @@ module _ (g : Game) (n : ℕ) (Z F : Set) (i : ℕ) where
           inside = λ s h. inv .inside s (shrinks s h);
           base = λ s z f. stays s (inv .base s z f) (inl f);
           most = λ W kept s w.
-            stays s (inv .most W kept s w)
-            (⊎-elim (λ f. inl f) (λ v. inr (waiting-mono g i (In W) (In X) s (inv .most W kept) v)) (kept s w .1));
+              stays s (inv .most W kept s w)
+              (⊎-elim (λ f. inl f) (λ v. inr (waiting-mono g i (In W) (In X) s (inv .most W kept) v)) (kept s w .1));
           earlier = λ s z o. out-at s z o (cases-bool (X s)) .0;
           removed = λ s z o. out-at s z o (cases-bool (X s)) .1;
-          left = omega (arith, counted, some, inv .left) }
+          left = omega (arith, counted, some, inv .left);
+        }
 
     pub staying-last : ((s : ℕ) → X′ s ≡ X s) → Greatest (Inner g Z (In F) i) X′
     staying-last same =
         record {
           kept = λ s h.
-            let x : X s ≡ true = sym (same s) ∙ h in
-            (inv .inside s x,
-             inner-in s (⊎-elim (λ y. absurd (both-ways (X′ s) (y .1) h)) (λ y. y .0 x) (m .each s (within s x))));
-          most = λ W kept s w. same s ∙ inv .most W kept s w }
+              let x : X s ≡ true = sym (same s) ∙ h in (
+                inv .inside s x,
+                inner-in s (⊎-elim (λ y. absurd (both-ways (X′ s) (y .1) h)) (λ y. y .0 x) (m .each s (within s x))),
+              );
+          most = λ W kept s w. same s ∙ inv .most W kept s w;
+        }
       where
         inner-in : (s : ℕ) → (F s ≡ true) ⊎ Waiting g i (In X) s → (F s ≡ true) ⊎ Waiting g i (In X′) s
         inner-in s (inl f) = inl f

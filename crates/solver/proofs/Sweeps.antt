@@ -24,9 +24,10 @@ abbrev pub Changed : {A : Type 0} → (ℕ → A) → (ℕ → A) → ℕ → A 
 Changed f f′ k v = (f′ k ≡ v) × ((t : ℕ) → (t ≡ k → ⊥) → f′ t ≡ f t)
 
 pub put-changed : (xs ys : List ℕ) (s : ℕ) (b : Bool) → Put xs s b ys → Changed (member xs) (member ys) s b
-put-changed xs ys s b p =
-    (p .1 s ∙ ap (λ (q : Bool). pick q b (member xs s)) (eq-eqb s s refl),
-     λ t ne. p .1 t ∙ ap (λ (q : Bool). pick q b (member xs t)) (ne-eqb t s ne))
+put-changed xs ys s b p = (
+  p .1 s ∙ ap (λ (q : Bool). pick q b (member xs s)) (eq-eqb s s refl),
+  λ t ne. p .1 t ∙ ap (λ (q : Bool). pick q b (member xs t)) (ne-eqb t s ne),
+)
 
 pub set-changed : (xs : List ℕ) (s v : ℕ) → s < length xs → Changed (cell xs) (cell (set xs s v)) s v
 set-changed xs s v l = (getD-set-same xs s v 0 l, λ t ne. getD-set-other xs s t v 0 ne)
@@ -64,9 +65,10 @@ marked-hit Yes No k b X X′ X″ u f f′ f″ w h h′ h″ m hit cX cf ch =
     record {
       each = λ s l. go s (below-or-at s k l);
       rest = λ s l.
-        let r = m .rest s (omega arith) in
-        let ne : s ≡ k → ⊥ = λ e. omega arith in
-        (cX .1 s ne ∙ r .0, cf .1 s ne ∙ r .1, ch .1 s ne ∙ r .2) }
+          let r = m .rest s (omega arith) in
+          let ne : s ≡ k → ⊥ = λ e. omega arith in
+          (cX .1 s ne ∙ r .0, cf .1 s ne ∙ r .1, ch .1 s ne ∙ r .2);
+    }
   where
     at-k : Yes k × (X″ k ≡ b) × (f″ k ≡ u) × (h″ k ≡ w)
     at-k = (hit, cX .0, cf .0, ch .0)

@@ -7,7 +7,7 @@
 --   Solves                 what the slices hold after it
 --   Call                   the call's outcome
 --   outcome-of             who wins from a state
---   refusal                the number and the place of a refusal
+--   refusal-of             the number and the place of a refusal
 use mathlib.Core.Path.{_≡_}
 use mathlib.Core.List.{List}
 use Prim.Native.Nat.{ℕ, _+_, _*_, _<_, _≤_}
@@ -50,7 +50,8 @@ lent known answers ranks waits layers avoids moves turned =
       layers = layers;
       avoids = avoids;
       moves = moves;
-      turned = turned }
+      turned = turned;
+    }
 
 -- how many answers a table has; how many ranks, and promises waited for; how many moves, and ranks, a counterstrategy has
 abbrev pub replies : Arena → ℕ
@@ -112,7 +113,7 @@ outcome-of known layers rounds s =
     cond (ltb s (room known) && ltb s (length layers)) (Some (cond (member known s) (Won rounds) (Lost (cell layers s)))) None
 
 -- the refusal's number, and its place: 0 for the sets, 1 for the table, 2 for the counterstrategy
-abbrev pub refusal : Short → ℕ × ℕ
-refusal Sets = (7, 0)
-refusal Tables = (7, 1)
-refusal Way = (7, 2)
+abbrev pub refusal-of : Short → ℕ × ℕ
+refusal-of Sets = (7, 0)
+refusal-of Tables = (7, 1)
+refusal-of Way = (7, 2)

@@ -33,7 +33,15 @@ fn falls(arena: Arena<'_>, ranks: &[u16], waits: &[u8], s: usize, t: usize) -> b
 }
 
 // Whether the table may go from `s` to `t`, going for goal `j`.
-fn is_fine(arena: Arena<'_>, zone: &[u8], j: usize, ranks: &[u16], waits: &[u8], s: usize, t: usize) -> bool
+fn is_fine(
+    arena: Arena<'_>,
+    zone: &[u8],
+    j: usize,
+    ranks: &[u16],
+    waits: &[u8],
+    s: usize,
+    t: usize,
+) -> bool
     requires from { ⌜ s < arena .states ⌝ }
     requires to { ⌜ t < arena .states ⌝ }
     requires goal { ⌜ j < arena .«goal_count» ⌝ }
@@ -53,7 +61,15 @@ fn is_fine(arena: Arena<'_>, zone: &[u8], j: usize, ranks: &[u16], waits: &[u8],
 
 // The answer to the move `e` in the state `s`, going for goal `j`: the first that is allowed and leads to where the table
 // may go, or 0 where there is none.
-fn answer_for(arena: Arena<'_>, zone: &[u8], j: usize, ranks: &[u16], waits: &[u8], s: usize, e: usize) -> u8
+fn answer_for(
+    arena: Arena<'_>,
+    zone: &[u8],
+    j: usize,
+    ranks: &[u16],
+    waits: &[u8],
+    s: usize,
+    e: usize,
+) -> u8
     requires state { ⌜ s < arena .states ⌝ }
     requires action { ⌜ e < arena .moves ⌝ }
     requires goal { ⌜ j < arena .«goal_count» ⌝ }
@@ -69,7 +85,9 @@ fn answer_for(arena: Arena<'_>, zone: &[u8], j: usize, ranks: &[u16], waits: &[u
         return 0;
     }
     for a in 0..arena.answers {
-        if arena.is_allowed(s, e, a) && is_fine(arena, zone, j, ranks, waits, s, arena.after(s, e, a)) {
+        if arena.is_allowed(s, e, a)
+            && is_fine(arena, zone, j, ranks, waits, s, arena.after(s, e, a))
+        {
             return a as u8;
         }
     }
@@ -77,7 +95,15 @@ fn answer_for(arena: Arena<'_>, zone: &[u8], j: usize, ranks: &[u16], waits: &[u
 }
 
 // Writes the answers to every move in the state `s`, going for goal `j`.
-fn answer_state(arena: Arena<'_>, zone: &[u8], j: usize, ranks: &[u16], waits: &[u8], s: usize, answers: &mut [u8])
+fn answer_state(
+    arena: Arena<'_>,
+    zone: &[u8],
+    j: usize,
+    ranks: &[u16],
+    waits: &[u8],
+    s: usize,
+    answers: &mut [u8],
+)
     requires state { ⌜ s < arena .states ⌝ }
     requires goal { ⌜ j < arena .«goal_count» ⌝ }
     requires zone { ⌜ room (now zone) ≡ arena .states ⌝ }
@@ -92,7 +118,14 @@ fn answer_state(arena: Arena<'_>, zone: &[u8], j: usize, ranks: &[u16], waits: &
 }
 
 // Writes the answers to every move in every state, going for goal `j`.
-fn answer_goal(arena: Arena<'_>, zone: &[u8], j: usize, ranks: &[u16], waits: &[u8], answers: &mut [u8])
+fn answer_goal(
+    arena: Arena<'_>,
+    zone: &[u8],
+    j: usize,
+    ranks: &[u16],
+    waits: &[u8],
+    answers: &mut [u8],
+)
     requires goal { ⌜ j < arena .«goal_count» ⌝ }
     requires zone { ⌜ room (now zone) ≡ arena .states ⌝ }
     requires ranks { ⌜ length (now ranks) ≡ arena .states ⌝ }
@@ -102,7 +135,15 @@ fn answer_goal(arena: Arena<'_>, zone: &[u8], j: usize, ranks: &[u16], waits: &[
 {
     for s in 0..arena.states {
         let first = s * arena.moves;
-        answer_state(arena, zone, j, ranks, waits, s, &mut answers[first..first + arena.moves]);
+        answer_state(
+            arena,
+            zone,
+            j,
+            ranks,
+            waits,
+            s,
+            &mut answers[first..first + arena.moves],
+        );
     }
 }
 
@@ -119,6 +160,13 @@ pub fn answer_all(arena: Arena<'_>, zone: &[u8], ranks: &[u16], waits: &[u8], an
         let first = j * arena.states;
         let end = first + arena.states;
         let place = j * size;
-        answer_goal(arena, zone, j, &ranks[first..end], &waits[first..end], &mut answers[place..place + size]);
+        answer_goal(
+            arena,
+            zone,
+            j,
+            &ranks[first..end],
+            &waits[first..end],
+            &mut answers[place..place + size],
+        );
     }
 }

@@ -10,7 +10,8 @@ ghost use Rattle.sets.specs.Member.{member, room};
 ghost use Rattle.solver.specs.Reasons.{cell};
 ghost use Rattle.solver.specs.Stay.{Leaves, Remains, Shrunk, Stayed};
 use sets::arena::Arena;
-use sets::set::{has, put};
+use sets::set::has;
+use sets::set::put;
 
 // Whether the state `s` leaves the set `before`: it is not in the base, and does not wait for promise `i` within the set.
 fn leaves(arena: Arena<'_>, base: &[u8], i: usize, before: &[u8], s: usize) -> bool
@@ -34,7 +35,15 @@ fn leaves(arena: Arena<'_>, base: &[u8], i: usize, before: &[u8], s: usize) -> b
 
 // One turn: takes out of `stay`, all at once, the states that are not in the base and do not wait for promise `i`
 // within the set as it was, which `before` is to hold; writes the turn beside each, and returns how many they are.
-fn shrink(arena: Arena<'_>, base: &[u8], i: usize, stay: &mut [u8], before: &mut [u8], turns: &mut [u16], turn: u32) -> usize
+fn shrink(
+    arena: Arena<'_>,
+    base: &[u8],
+    i: usize,
+    stay: &mut [u8],
+    before: &mut [u8],
+    turns: &mut [u16],
+    turn: u32,
+) -> usize
     requires promise { ⌜ i < arena .«promise_count» ⌝ }
     requires base { ⌜ room (now base) ≡ arena .states ⌝ }
     requires stay { ⌜ room (now stay) ≡ arena .states ⌝ }
@@ -57,7 +66,15 @@ fn shrink(arena: Arena<'_>, base: &[u8], i: usize, stay: &mut [u8], before: &mut
 
 // Leaves in `stay` the greatest set of states of `zone` that are in the base or wait for promise `i` within it, and in
 // `turns`, for each other state of `zone`, the turn at which it left.
-pub fn wait_within(arena: Arena<'_>, zone: &[u8], base: &[u8], i: usize, stay: &mut [u8], before: &mut [u8], turns: &mut [u16])
+pub fn wait_within(
+    arena: Arena<'_>,
+    zone: &[u8],
+    base: &[u8],
+    i: usize,
+    stay: &mut [u8],
+    before: &mut [u8],
+    turns: &mut [u16],
+)
     requires promise { ⌜ i < arena .«promise_count» ⌝ }
     requires zone { ⌜ room (now zone) ≡ arena .states ⌝ }
     requires base { ⌜ room (now base) ≡ arena .states ⌝ }

@@ -13,7 +13,9 @@ ghost use Rattle.solver.specs.Sweep.{Decided};
 ghost use Rattle.std.specs.Orderings.{Decides, When};
 use super::inner::wait_within;
 use sets::arena::Arena;
-use sets::set::{fill, has, put};
+use sets::set::fill;
+use sets::set::has;
+use sets::set::put;
 
 // What a rank that waits for no promise has in place of a promise's number.
 pub const NONE: u8 = 8;
@@ -83,7 +85,15 @@ fn find_base(arena: Arena<'_>, zone: &[u8], hits: &[u8], reach: &[u8], base: &mu
 
 // Enters the states of `found` that are new into `reach`, with this rank and the promise waited for; returns the rank to
 // give next, which is one more where something was new.
-fn enter(arena: Arena<'_>, found: &[u8], reach: &mut [u8], ranks: &mut [u16], waits: &mut [u8], rank: u32, wait: u8) -> u32
+fn enter(
+    arena: Arena<'_>,
+    found: &[u8],
+    reach: &mut [u8],
+    ranks: &mut [u16],
+    waits: &mut [u8],
+    rank: u32,
+    wait: u8,
+) -> u32
     requires found { ⌜ room (now found) ≡ arena .states ⌝ }
     requires reach { ⌜ room (now reach) ≡ arena .states ⌝ }
     requires ranks { ⌜ length (now ranks) ≡ arena .states ⌝ }
@@ -113,7 +123,19 @@ pub fn is_new(found: &[u8], reach: &[u8], s: usize) -> bool
 }
 
 // One round: enters the base, and for each promise what can wait for it. Returns the rank to give next.
-fn round(arena: Arena<'_>, zone: &[u8], j: usize, base: &[u8], reach: &mut [u8], stay: &mut [u8], before: &mut [u8], ranks: &mut [u16], waits: &mut [u8], turns: &mut [u16], next: u32) -> u32
+fn round(
+    arena: Arena<'_>,
+    zone: &[u8],
+    j: usize,
+    base: &[u8],
+    reach: &mut [u8],
+    stay: &mut [u8],
+    before: &mut [u8],
+    ranks: &mut [u16],
+    waits: &mut [u8],
+    turns: &mut [u16],
+    next: u32,
+) -> u32
     requires zone { ⌜ room (now zone) ≡ arena .states ⌝ }
     requires base { ⌜ room (now base) ≡ arena .states ⌝ }
     requires reach { ⌜ room (now reach) ≡ arena .states ⌝ }
@@ -129,7 +151,15 @@ fn round(arena: Arena<'_>, zone: &[u8], j: usize, base: &[u8], reach: &mut [u8],
     let mut rank = enter(arena, base, reach, ranks, waits, next, NONE);
     for i in 0..arena.promise_count {
         let first = i * arena.states;
-        wait_within(arena, zone, base, i, stay, before, &mut turns[first..first + arena.states]);
+        wait_within(
+            arena,
+            zone,
+            base,
+            i,
+            stay,
+            before,
+            &mut turns[first..first + arena.states],
+        );
         rank = enter(arena, stay, reach, ranks, waits, rank, i as u8);
     }
     rank
@@ -137,7 +167,19 @@ fn round(arena: Arena<'_>, zone: &[u8], j: usize, base: &[u8], reach: &mut [u8],
 
 // Leaves in `reach` the least set of states of the zone from which goal `j` can be reached, with their ranks and the
 // promises waited for; and in `turns`, for each promise, when the inner loop took each other state of the zone out.
-pub fn attain(arena: Arena<'_>, zone: &[u8], j: usize, hits: &mut [u8], base: &mut [u8], reach: &mut [u8], stay: &mut [u8], before: &mut [u8], ranks: &mut [u16], waits: &mut [u8], turns: &mut [u16])
+pub fn attain(
+    arena: Arena<'_>,
+    zone: &[u8],
+    j: usize,
+    hits: &mut [u8],
+    base: &mut [u8],
+    reach: &mut [u8],
+    stay: &mut [u8],
+    before: &mut [u8],
+    ranks: &mut [u16],
+    waits: &mut [u8],
+    turns: &mut [u16],
+)
     requires goal { ⌜ j < arena .«goal_count» ⌝ }
     requires zone { ⌜ room (now zone) ≡ arena .states ⌝ }
     requires hits { ⌜ room (now hits) ≡ arena .states ⌝ }
@@ -157,7 +199,19 @@ pub fn attain(arena: Arena<'_>, zone: &[u8], j: usize, hits: &mut [u8], base: &m
     let mut next = 0;
     'middle: loop {
         find_base(arena, zone, hits, reach, base);
-        let rank = round(arena, zone, j, base, reach, stay, before, ranks, waits, turns, next);
+        let rank = round(
+            arena,
+            zone,
+            j,
+            base,
+            reach,
+            stay,
+            before,
+            ranks,
+            waits,
+            turns,
+            next,
+        );
         if rank == next {
             break 'middle;
         }

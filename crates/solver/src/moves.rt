@@ -17,7 +17,11 @@ use sets::set::has;
 pub fn row_count(arena: Arena<'_>) -> usize
     ensures { λ r. ⌜ r ≡ turn-rows (arena .entry .«promise_count») ⌝ }
 {
-    if arena.promise_count == 0 { 1 } else { arena.promise_count }
+    if arena.promise_count == 0 {
+        1
+    } else {
+        arena.promise_count
+    }
 }
 
 // Whether promise `i` holds in `s`; a number that is no promise's holds nowhere.
@@ -46,7 +50,16 @@ fn goes_onward(arena: Arena<'_>, i: usize, turns: &[u16], s: usize, t: usize) ->
 }
 
 // Whether the counterstrategy knows `t` and descends to it from `s`, going for promise `i`.
-fn is_free(arena: Arena<'_>, zone: &[u8], layers: &[u16], avoids: &[u8], i: usize, turns: &[u16], s: usize, t: usize) -> bool
+fn is_free(
+    arena: Arena<'_>,
+    zone: &[u8],
+    layers: &[u16],
+    avoids: &[u8],
+    i: usize,
+    turns: &[u16],
+    s: usize,
+    t: usize,
+) -> bool
     requires from { ⌜ s < arena .states ⌝ }
     requires to { ⌜ t < arena .states ⌝ }
     requires zone { ⌜ room (now zone) ≡ arena .states ⌝ }
@@ -75,7 +88,16 @@ fn is_free(arena: Arena<'_>, zone: &[u8], layers: &[u16], avoids: &[u8], i: usiz
 }
 
 // Whether every allowed answer to the move `e` in `s` leads to where the counterstrategy goes on.
-fn all_free(arena: Arena<'_>, zone: &[u8], layers: &[u16], avoids: &[u8], i: usize, turns: &[u16], s: usize, e: usize) -> bool
+fn all_free(
+    arena: Arena<'_>,
+    zone: &[u8],
+    layers: &[u16],
+    avoids: &[u8],
+    i: usize,
+    turns: &[u16],
+    s: usize,
+    e: usize,
+) -> bool
     requires state { ⌜ s < arena .states ⌝ }
     requires action { ⌜ e < arena .moves ⌝ }
     requires zone { ⌜ room (now zone) ≡ arena .states ⌝ }
@@ -85,7 +107,18 @@ fn all_free(arena: Arena<'_>, zone: &[u8], layers: &[u16], avoids: &[u8], i: usi
     ensures { λ r. ⌜ When r (AllOpen (arena-game (arena .entry)) (member (now (zone .entry))) (cell (now (layers .entry))) (cell (now (avoids .entry))) (cell (now (turns .entry))) i s e) (Forced (arena-game (arena .entry)) (Shut (arena-game (arena .entry)) (member (now (zone .entry))) (cell (now (layers .entry))) (cell (now (avoids .entry))) (cell (now (turns .entry))) i s) s e) ⌝ }
 {
     for a in 0..arena.answers {
-        if arena.is_allowed(s, e, a) && !is_free(arena, zone, layers, avoids, i, turns, s, arena.after(s, e, a)) {
+        if arena.is_allowed(s, e, a)
+            && !is_free(
+                arena,
+                zone,
+                layers,
+                avoids,
+                i,
+                turns,
+                s,
+                arena.after(s, e, a),
+            )
+        {
             return false;
         }
     }
@@ -94,7 +127,15 @@ fn all_free(arena: Arena<'_>, zone: &[u8], layers: &[u16], avoids: &[u8], i: usi
 
 // The move in `s`, going for promise `i`: the first that is legal and after which every allowed answer leads to where
 // the counterstrategy goes on, or 0 where there is none.
-fn move_for(arena: Arena<'_>, zone: &[u8], layers: &[u16], avoids: &[u8], i: usize, turns: &[u16], s: usize) -> u8
+fn move_for(
+    arena: Arena<'_>,
+    zone: &[u8],
+    layers: &[u16],
+    avoids: &[u8],
+    i: usize,
+    turns: &[u16],
+    s: usize,
+) -> u8
     requires state { ⌜ s < arena .states ⌝ }
     requires zone { ⌜ room (now zone) ≡ arena .states ⌝ }
     requires layers { ⌜ length (now layers) ≡ arena .states ⌝ }
@@ -114,7 +155,15 @@ fn move_for(arena: Arena<'_>, zone: &[u8], layers: &[u16], avoids: &[u8], i: usi
 }
 
 // Writes the moves of every state, going for promise `i`.
-fn move_row(arena: Arena<'_>, zone: &[u8], layers: &[u16], avoids: &[u8], i: usize, turns: &[u16], moves: &mut [u8])
+fn move_row(
+    arena: Arena<'_>,
+    zone: &[u8],
+    layers: &[u16],
+    avoids: &[u8],
+    i: usize,
+    turns: &[u16],
+    moves: &mut [u8],
+)
     requires zone { ⌜ room (now zone) ≡ arena .states ⌝ }
     requires layers { ⌜ length (now layers) ≡ arena .states ⌝ }
     requires avoids { ⌜ length (now avoids) ≡ arena .states ⌝ }
@@ -141,7 +190,14 @@ fn clear_row(arena: Arena<'_>, zone: &[u8], turns: &mut [u16])
 }
 
 // Writes the moves of the counterstrategy, promise by promise, and leaves only the turns of lost states, its ranks.
-pub fn move_all(arena: Arena<'_>, zone: &[u8], layers: &[u16], avoids: &[u8], turns: &mut [u16], moves: &mut [u8])
+pub fn move_all(
+    arena: Arena<'_>,
+    zone: &[u8],
+    layers: &[u16],
+    avoids: &[u8],
+    turns: &mut [u16],
+    moves: &mut [u8],
+)
     requires zone { ⌜ room (now zone) ≡ arena .states ⌝ }
     requires layers { ⌜ length (now layers) ≡ arena .states ⌝ }
     requires avoids { ⌜ length (now avoids) ≡ arena .states ⌝ }

@@ -9,13 +9,23 @@ ghost use Rattle.sets.specs.Count.{count};
 ghost use Rattle.sets.specs.Member.{member, room};
 ghost use Rattle.solver.specs.Reasons.{cell, row};
 ghost use Rattle.solver.specs.Settle.{Dropped, Lost, Passed, Solved};
-use super::middle::{attain, is_new};
+use super::middle::attain;
+use super::middle::is_new;
 use sets::arena::Arena;
-use sets::set::{fill, put};
+use sets::set::fill;
+use sets::set::put;
 
 // Drops the states of the zone that are not in `reach`, with this layer and the goal to be kept away from; returns the
 // layer to give next, which is one more where something was dropped.
-fn drop_lost(arena: Arena<'_>, zone: &mut [u8], reach: &[u8], layers: &mut [u16], avoids: &mut [u8], layer: u32, goal: u8) -> u32
+fn drop_lost(
+    arena: Arena<'_>,
+    zone: &mut [u8],
+    reach: &[u8],
+    layers: &mut [u16],
+    avoids: &mut [u8],
+    layer: u32,
+    goal: u8,
+) -> u32
     requires zone { ⌜ room (now zone) ≡ arena .states ⌝ }
     requires reach { ⌜ room (now reach) ≡ arena .states ⌝ }
     requires layers { ⌜ length (now layers) ≡ arena .states ⌝ }
@@ -37,7 +47,21 @@ fn drop_lost(arena: Arena<'_>, zone: &mut [u8], reach: &[u8], layers: &mut [u16]
 
 // One round: for each goal in turn, drops the states of the zone from which it can't be reached. Returns the layer to
 // give next.
-fn pass(arena: Arena<'_>, zone: &mut [u8], hits: &mut [u8], base: &mut [u8], reach: &mut [u8], stay: &mut [u8], before: &mut [u8], layers: &mut [u16], avoids: &mut [u8], ranks: &mut [u16], waits: &mut [u8], turns: &mut [u16], layer: u32) -> u32
+fn pass(
+    arena: Arena<'_>,
+    zone: &mut [u8],
+    hits: &mut [u8],
+    base: &mut [u8],
+    reach: &mut [u8],
+    stay: &mut [u8],
+    before: &mut [u8],
+    layers: &mut [u16],
+    avoids: &mut [u8],
+    ranks: &mut [u16],
+    waits: &mut [u8],
+    turns: &mut [u16],
+    layer: u32,
+) -> u32
     requires zone { ⌜ room (now zone) ≡ arena .states ⌝ }
     requires hits { ⌜ room (now hits) ≡ arena .states ⌝ }
     requires base { ⌜ room (now base) ≡ arena .states ⌝ }
@@ -56,7 +80,19 @@ fn pass(arena: Arena<'_>, zone: &mut [u8], hits: &mut [u8], base: &mut [u8], rea
     for j in 0..arena.goal_count {
         let first = j * arena.states;
         let end = first + arena.states;
-        attain(arena, zone, j, hits, base, reach, stay, before, &mut ranks[first..end], &mut waits[first..end], turns);
+        attain(
+            arena,
+            zone,
+            j,
+            hits,
+            base,
+            reach,
+            stay,
+            before,
+            &mut ranks[first..end],
+            &mut waits[first..end],
+            turns,
+        );
         next = drop_lost(arena, zone, reach, layers, avoids, next, j as u8);
     }
     next
@@ -65,7 +101,20 @@ fn pass(arena: Arena<'_>, zone: &mut [u8], hits: &mut [u8], base: &mut [u8], rea
 // Leaves in `zone` the winning region; for each goal the ranks of its states and the promises waited for; for every
 // other state a layer, the goal to be kept away from, and for each promise the turn at which it was taken out. Returns
 // how many rounds it took, the last one, which drops nothing, included.
-pub fn settle(arena: Arena<'_>, zone: &mut [u8], hits: &mut [u8], base: &mut [u8], reach: &mut [u8], stay: &mut [u8], before: &mut [u8], layers: &mut [u16], avoids: &mut [u8], ranks: &mut [u16], waits: &mut [u8], turns: &mut [u16]) -> u32
+pub fn settle(
+    arena: Arena<'_>,
+    zone: &mut [u8],
+    hits: &mut [u8],
+    base: &mut [u8],
+    reach: &mut [u8],
+    stay: &mut [u8],
+    before: &mut [u8],
+    layers: &mut [u16],
+    avoids: &mut [u8],
+    ranks: &mut [u16],
+    waits: &mut [u8],
+    turns: &mut [u16],
+) -> u32
     requires zone { ⌜ room (now zone) ≡ arena .states ⌝ }
     requires hits { ⌜ room (now hits) ≡ arena .states ⌝ }
     requires base { ⌜ room (now base) ≡ arena .states ⌝ }
@@ -88,7 +137,21 @@ pub fn settle(arena: Arena<'_>, zone: &mut [u8], hits: &mut [u8], base: &mut [u8
     let mut rounds = 0;
     'outer: loop {
         rounds += 1;
-        let layer = pass(arena, zone, hits, base, reach, stay, before, layers, avoids, ranks, waits, turns, next);
+        let layer = pass(
+            arena,
+            zone,
+            hits,
+            base,
+            reach,
+            stay,
+            before,
+            layers,
+            avoids,
+            ranks,
+            waits,
+            turns,
+            next,
+        );
         if layer == next {
             break 'outer;
         }

@@ -25,7 +25,7 @@ pub loop-j-again : need.loop-j-again
 loop-j-again c =
     let a = c .args .arena in
     let fits : c .loop-j .j * (a .states * a .moves) + a .states * a .moves ≤ length (c .loop-j .answers) =
-      row-fits _ _ (a .«goal_count») _ (c .loop-j-test .taken) (omega (arith, c .pre .answers)) in
+    row-fits _ _ (a .«goal_count») _ (c .loop-j-test .taken) (omega (arith, c .pre .answers)) in
     answered-more (arena-game a) (a .states) (a .moves) (λ s e k. after-below a s e k) _ (row (c .args .ranks .now) (a .states)) (row (c .args .waits .now) (a .states))
     (c .loop-j .j) (c .loop-j .answers) _ _ _
     (λ s l. sym (row-part (c .args .ranks .now) (a .states) (c .loop-j .j) s _ (omega arith) l))

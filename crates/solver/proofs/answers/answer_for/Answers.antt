@@ -8,4 +8,5 @@ returns c =
     record {
       good = λ z m f. absurd (c .loop-a .inv (f .0) (omega (arith, answer-below (c .args .arena) _ _ (f .0) (f .1))) (f .1) (f .2));
       outside = λ z. refl;
-      illegal = λ m. refl }
+      illegal = λ m. refl;
+    }

@@ -17,6 +17,6 @@ pub loop-s-again : need.loop-s-again
 loop-s-again c =
     let a = c .args .arena in
     let fits : c .loop-s .s * a .moves + a .moves ≤ length (c .loop-s .answers) =
-      row-fits _ _ (a .states) _ (c .loop-s-test .taken) (omega (arith, c .pre .answers)) in
+    row-fits _ _ (a .states) _ (c .loop-s-test .taken) (omega (arith, c .pre .answers)) in
     rows-more (Answer (arena-game a) (member (c .args .zone .now)) (c .args .j) (cell (c .args .ranks .now)) (cell (c .args .waits .now)))
     _ _ _ _ _ (omega arith) (c .answer-state .kept .answers ∙ part-length _ _ _ _ (omega arith) fits) fits (c .loop-s .inv) (c .answer-state .ensures)

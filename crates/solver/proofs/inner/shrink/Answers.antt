@@ -23,12 +23,13 @@ loop-s-holds c = shrunk-none _ _ _ _ _ _ _ _ (c .copy-from-slice .ensures .after
 pub loop-s-again : need.loop-s-again
 loop-s-again c =
     elim (c .if-leaves .came) [
-      then-leaves w ↦
-        along3 (Shrunk _ _ _ _ _ _ _ _) (w .stay-is) (w .turns-is) (w .removed-is)
-        (shrunk-hit _ _ _ _ _ _ _ _ _ _ _ (c .loop-s .inv) _ (omega arith) (omega arith) (w .if-leaves .ensures tt) (w .put .ensures))
-    | else-leaves w ↦
-        along3 (Shrunk _ _ _ _ _ _ _ _) (w .stay-is) (w .turns-is) (w .removed-is)
-        (shrunk-miss _ _ _ _ _ _ _ _ _ _ _ (c .loop-s .inv) (w .if-leaves .ensures tt)) ]
+      | then-leaves w ↦
+          along3 (Shrunk _ _ _ _ _ _ _ _) (w .stay-is) (w .turns-is) (w .removed-is)
+          (shrunk-hit _ _ _ _ _ _ _ _ _ _ _ (c .loop-s .inv) _ (omega arith) (omega arith) (w .if-leaves .ensures tt) (w .put .ensures))
+      | else-leaves w ↦
+          along3 (Shrunk _ _ _ _ _ _ _ _) (w .stay-is) (w .turns-is) (w .removed-is)
+          (shrunk-miss _ _ _ _ _ _ _ _ _ _ _ (c .loop-s .inv) (w .if-leaves .ensures tt))
+    ]
 
 pub returns : need.returns
 returns c =
@@ -40,6 +41,6 @@ returns c =
 pub cast-turns : need.cast-turns
 cast-turns c =
     let some : 0 < count (c .args .arena .states) (member (c .args .stay .now)) =
-      count-some _ (member (c .args .stay .now)) (c .loop-s .s) (omega arith)
-      (subst (λ (b : List ℕ). member b (c .loop-s .s) ≡ true) (c .copy-from-slice .ensures .after) (c .if-leaves .ensures tt .0)) in
+    count-some _ (member (c .args .stay .now)) (c .loop-s .s) (omega arith)
+    (subst (λ (b : List ℕ). member b (c .loop-s .s) ≡ true) (c .copy-from-slice .ensures .after) (c .if-leaves .ensures tt .0)) in
     fits-below {n = 65535} tt (omega (arith, c .pre .turn))

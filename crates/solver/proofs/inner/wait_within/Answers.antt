@@ -11,17 +11,19 @@ use Rattle.solver.proofs.Stays.{Staying, staying-first, staying-turn, staying-
 use Rattle.solver.proofs.inner.wait_within.Needs as need
 
 pub inner-holds : need.inner-holds
-inner-holds c =
-    (subst (λ (x : List ℕ). Staying (arena-game (c .args .arena)) (c .args .arena .states) (member (c .args .zone .now)) (member (c .args .base .now)) (c .args .i) (member x) (cell (c .args .turns .now)) 0)
-     (sym (c .copy-from-slice .ensures .after)) (staying-first _ _ _ _ _ _),
-     λ s z. refl)
+inner-holds c = (
+  subst (λ (x : List ℕ). Staying (arena-game (c .args .arena)) (c .args .arena .states) (member (c .args .zone .now)) (member (c .args .base .now)) (c .args .i) (member x) (cell (c .args .turns .now)) 0)
+      (sym (c .copy-from-slice .ensures .after)) (staying-first _ _ _ _ _ _),
+  λ s z. refl,
+)
 
 pub inner-again : need.inner-again
 inner-again c =
     let sh = c .shrink-removed .ensures in
-    let within : (s : ℕ) → member (c .inner .stay) s ≡ true → s < c .args .arena .states = λ s h. omega (arith, member-below (c .inner .stay) s h) in
-    (staying-turn _ _ _ _ _ _ _ _ _ _ (c .inner .inv .0) within (sh .marked) _ (sh .counted) (omega arith),
-     λ s z. outside-last _ _ _ _ _ _ _ _ _ _ (c .inner .inv .0) within (sh .marked) s z ∙ c .inner .inv .1 s z)
+    let within : (s : ℕ) → member (c .inner .stay) s ≡ true → s < c .args .arena .states = λ s h. omega (arith, member-below (c .inner .stay) s h) in (
+      staying-turn _ _ _ _ _ _ _ _ _ _ (c .inner .inv .0) within (sh .marked) _ (sh .counted) (omega arith),
+      λ s z. outside-last _ _ _ _ _ _ _ _ _ _ (c .inner .inv .0) within (sh .marked) s z ∙ c .inner .inv .1 s z,
+    )
 
 pub returns : need.returns
 returns c =
@@ -33,4 +35,5 @@ returns c =
       greatest = staying-last _ _ _ _ _ _ _ _ _ _ (c .inner .inv .0) within (sh .marked) same;
       base = λ s z f. same s ∙ c .inner .inv .0 .base s z f;
       removed = removed-last _ _ _ _ _ _ _ _ _ _ (c .inner .inv .0) within (sh .marked) same;
-      outside = λ s z. outside-last _ _ _ _ _ _ _ _ _ _ (c .inner .inv .0) within (sh .marked) s z ∙ c .inner .inv .1 s z }
+      outside = λ s z. outside-last _ _ _ _ _ _ _ _ _ _ (c .inner .inv .0) within (sh .marked) s z ∙ c .inner .inv .1 s z;
+    }

@@ -22,10 +22,11 @@ pub middle-holds : need.middle-holds
 middle-holds c =
     record {
       ranked =
-        ranked-none _ _ _ _ _ _ _ (filled-none _ _ (c .fill .ensures))
-        (λ s. (cell-zeros _ _ s (c .fill-2 .ensures .after (λ y h. h)), cell-zeros _ _ s (c .fill-3 .ensures .after (λ y h. h))));
+          ranked-none _ _ _ _ _ _ _ (filled-none _ _ (c .fill .ensures))
+          (λ s. (cell-zeros _ _ s (c .fill-2 .ensures .after (λ y h. h)), cell-zeros _ _ s (c .fill-3 .ensures .after (λ y h. h))));
       outside = λ i s l m z. refl;
-      beyond = λ i s l m. refl }
+      beyond = λ i s l m. refl;
+    }
 
 pub find-base-requires : need.find-base-requires
 find-base-requires c κs =
@@ -35,8 +36,9 @@ find-base-requires c κs =
       reach = omega arith;
       base = omega arith;
       grounded =
-        on-base _ _ _ _ _ (under (c .args .zone .now) _ (omega arith)) (under (c .find-hits .last .hits) _ (omega arith))
-        (c .find-hits .ensures) _ _ _ _ (c .middle .inv .ranked) }
+          on-base _ _ _ _ _ (under (c .args .zone .now) _ (omega arith)) (under (c .find-hits .last .hits) _ (omega arith))
+          (c .find-hits .ensures) _ _ _ _ (c .middle .inv .ranked);
+    }
 
 pub round-rank-requires : need.round-rank-requires
 round-rank-requires c κs =
@@ -50,17 +52,22 @@ round-rank-requires c κs =
       waits = omega arith;
       turns = omega (arith, c .pre .turns);
       is-base =
-        base-is _ _ _ _ _ (under (c .args .zone .now) _ (omega arith)) (under (c .find-hits .last .hits) _ (omega arith))
-        (c .find-hits .ensures) _ _ (under (c .find-base .last .base) _ (omega arith)) (c .find-base .ensures);
-      ranked = c .middle .inv .ranked }
+          base-is _ _ _ _ _ (under (c .args .zone .now) _ (omega arith)) (under (c .find-hits .last .hits) _ (omega arith))
+          (c .find-hits .ensures) _ _ (under (c .find-base .last .base) _ (omega arith)) (c .find-base .ensures);
+      ranked = c .middle .inv .ranked;
+    }
 
 pub middle-again : need.middle-again
 middle-again c = attaining-more _ _ _ _ _ _ _ _ _ _ (c .middle .inv) _ (sym (promises-is (c .args .arena))) _ _ _ _ _ (c .round-rank .ensures)
 
 pub middle-less : need.middle-less
 middle-less c =
-    omega (arith, c .round-rank .ensures .up, c .round-rank .ensures .ranked .left,
-        count-most (c .args .arena .states) (member (c .round-rank .last .reach)))
+    omega (
+      arith,
+      c .round-rank .ensures .up,
+      c .round-rank .ensures .ranked .left,
+      count-most (c .args .arena .states) (member (c .round-rank .last .reach)),
+    )
 
 pub returns : need.returns
 returns c =

@@ -17,7 +17,7 @@ offset-ranks-s c = fits-below {n = 131072} tt (omega arith)
 pub cast-ranks : need.cast-ranks
 cast-ranks c =
     let room : count (c .args .arena .states) (member (c .loop-s .reach)) < c .args .arena .states =
-      count-room _ (member (c .loop-s .reach)) (c .loop-s .s) (omega arith) (c .if-is-new .ensures tt .1) in
+    count-room _ (member (c .loop-s .reach)) (c .loop-s .s) (omega arith) (c .if-is-new .ensures tt .1) in
     fits-below {n = 65535} tt (omega (arith, c .pre .rank, c .loop-s .inv .left, c .loop-s .inv .up))
 
 pub loop-s-holds : need.loop-s-holds
@@ -26,12 +26,13 @@ loop-s-holds c = entered-none _ _ _ _ _ _ _
 pub loop-s-again : need.loop-s-again
 loop-s-again c =
     elim (c .if-is-new .came) [
-      then-is-new w ↦
-        along4 (Entered _ _ _ _ _ _ _ _) (w .reach-is) (w .ranks-is) (w .waits-is) (w .next-is)
-        (entered-hit _ _ _ _ _ _ _ _ _ _ _ _ (c .loop-s .inv) _ (omega arith) (omega arith) (omega arith) (w .if-is-new .ensures tt) (w .put .ensures))
-    | else-is-new w ↦
-        along4 (Entered _ _ _ _ _ _ _ _) (w .reach-is) (w .ranks-is) (w .waits-is) (w .next-is)
-        (entered-miss _ _ _ _ _ _ _ _ _ _ _ _ (c .loop-s .inv) (w .if-is-new .ensures tt)) ]
+      | then-is-new w ↦
+          along4 (Entered _ _ _ _ _ _ _ _) (w .reach-is) (w .ranks-is) (w .waits-is) (w .next-is)
+          (entered-hit _ _ _ _ _ _ _ _ _ _ _ _ (c .loop-s .inv) _ (omega arith) (omega arith) (omega arith) (w .if-is-new .ensures tt) (w .put .ensures))
+      | else-is-new w ↦
+          along4 (Entered _ _ _ _ _ _ _ _) (w .reach-is) (w .ranks-is) (w .waits-is) (w .next-is)
+          (entered-miss _ _ _ _ _ _ _ _ _ _ _ _ (c .loop-s .inv) (w .if-is-new .ensures tt))
+    ]
 
 pub returns : need.returns
 returns c =

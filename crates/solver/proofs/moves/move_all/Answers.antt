@@ -17,9 +17,9 @@ pub loop-i-again : need.loop-i-again
 loop-i-again c =
     let a = c .args .arena in
     let fits-t : c .loop-i .i * a .states + a .states ≤ length (c .loop-i .turns) =
-      row-fits _ _ (turn-rows (a .«promise_count»)) _ (omega arith) (omega (arith, c .pre .turns)) in
+    row-fits _ _ (turn-rows (a .«promise_count»)) _ (omega arith) (omega (arith, c .pre .turns)) in
     let fits-m : c .loop-i .i * a .states + a .states ≤ length (c .loop-i .moves) =
-      row-fits _ _ (turn-rows (a .«promise_count»)) _ (omega arith) (omega (arith, c .pre .moves)) in
+    row-fits _ _ (turn-rows (a .«promise_count»)) _ (omega arith) (omega (arith, c .pre .moves)) in
     let part-t : length (c .clear-row .last .turns) ≡ a .states = c .clear-row .kept .turns ∙ part-length _ _ _ _ (omega arith) fits-t in
     let part-m : length (c .move-row .last .moves) ≡ a .states = c .move-row .kept .moves ∙ part-length _ _ _ _ (omega arith) fits-m in
     moved-more _ _ (λ s e k. after-below a s e k) _ _ _ _ _ _ _ (c .loop-i .inv)

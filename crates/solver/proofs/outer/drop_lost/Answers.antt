@@ -17,7 +17,7 @@ offset-layers-s c = fits-below {n = 131072} tt (omega arith)
 pub cast-layers : need.cast-layers
 cast-layers c =
     let some : 0 < count (c .args .arena .states) (member (c .loop-s .zone)) =
-      count-some _ (member (c .loop-s .zone)) (c .loop-s .s) (omega arith) (c .if-is-new .ensures tt .0) in
+    count-some _ (member (c .loop-s .zone)) (c .loop-s .s) (omega arith) (c .if-is-new .ensures tt .0) in
     fits-below {n = 65535} tt (omega (arith, c .pre .layer, c .loop-s .inv .left, c .loop-s .inv .up))
 
 pub add-next : need.add-next
@@ -29,12 +29,13 @@ loop-s-holds c = dropped-none _ _ _ _ _ _ _
 pub loop-s-again : need.loop-s-again
 loop-s-again c =
     elim (c .if-is-new .came) [
-      then-is-new w ↦
-        along4 (Dropped _ _ _ _ _ _ _ _) (w .zone-is) (w .layers-is) (w .avoids-is) (w .next-is)
-        (dropped-hit _ _ _ _ _ _ _ _ _ _ _ _ (c .loop-s .inv) _ (omega arith) (omega arith) (omega arith) (w .if-is-new .ensures tt) (w .put .ensures))
-    | else-is-new w ↦
-        along4 (Dropped _ _ _ _ _ _ _ _) (w .zone-is) (w .layers-is) (w .avoids-is) (w .next-is)
-        (dropped-miss _ _ _ _ _ _ _ _ _ _ _ _ (c .loop-s .inv) (w .if-is-new .ensures tt)) ]
+      | then-is-new w ↦
+          along4 (Dropped _ _ _ _ _ _ _ _) (w .zone-is) (w .layers-is) (w .avoids-is) (w .next-is)
+          (dropped-hit _ _ _ _ _ _ _ _ _ _ _ _ (c .loop-s .inv) _ (omega arith) (omega arith) (omega arith) (w .if-is-new .ensures tt) (w .put .ensures))
+      | else-is-new w ↦
+          along4 (Dropped _ _ _ _ _ _ _ _) (w .zone-is) (w .layers-is) (w .avoids-is) (w .next-is)
+          (dropped-miss _ _ _ _ _ _ _ _ _ _ _ _ (c .loop-s .inv) (w .if-is-new .ensures tt))
+    ]
 
 pub returns : need.returns
 returns c =

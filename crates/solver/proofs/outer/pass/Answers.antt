@@ -22,9 +22,9 @@ pub loop-j-again : need.loop-j-again
 loop-j-again c =
     let a = c .args .arena in
     let fits-r : c .loop-j .j * a .states + a .states ≤ length (c .loop-j .ranks) =
-      row-fits _ _ (a .«goal_count») _ (c .loop-j-test .taken) (omega (arith, c .pre .ranks)) in
+    row-fits _ _ (a .«goal_count») _ (c .loop-j-test .taken) (omega (arith, c .pre .ranks)) in
     let fits-w : c .loop-j .j * a .states + a .states ≤ length (c .loop-j .waits) =
-      row-fits _ _ (a .«goal_count») _ (c .loop-j-test .taken) (omega (arith, c .pre .waits)) in
+    row-fits _ _ (a .«goal_count») _ (c .loop-j-test .taken) (omega (arith, c .pre .waits)) in
     let part-r : length (c .attain .last .ranks) ≡ a .states = c .attain .kept .ranks ∙ part-length _ _ _ _ (omega arith) fits-r in
     let part-w : length (c .attain .last .waits) ≡ a .states = c .attain .kept .waits ∙ part-length _ _ _ _ (omega arith) fits-w in
     passed-more _ _ (λ s e k. after-below a s e k) _ _ _ _ _ _ _ _ _ _ (c .loop-j .inv) (omega (arith, goals-is a)) (omega arith)

@@ -13,15 +13,16 @@ returns c =
     let r : c .row-count .result * c .args .arena .states ≡ rows (c .args .arena) = ap (λ (x : ℕ). x * c .args .arena .states) (c .row-count .ensures) in
     record {
       solves =
-        solves-from (c .args .arena) _ (lent (c .solve-within .last .known) (c .solve-within .last .answers) (c .solve-within .last .ranks) (c .solve-within .last .waits) (c .solve-within .last .layers) (c .solve-within .last .avoids) (c .solve-within .last .moves) (c .solve-within .last .turns))
-        _ _ _ _ _ _ _ _
-        (record { size = omega arith; fits = t .0; len = k .known })
-        (record { size = omega arith; fits = t .1; len = k .answers })
-        (record { size = omega arith; fits = t .2; len = k .ranks })
-        (record { size = omega arith; fits = t .3; len = k .waits })
-        (record { size = omega arith; fits = w .0; len = k .layers })
-        (record { size = omega arith; fits = w .1; len = k .avoids })
-        (record { size = omega (arith, r); fits = w .2; len = k .moves })
-        (record { size = omega (arith, r); fits = w .3; len = k .turns })
-        (c .solve-within .ensures .solution);
-      rounds = c .solve-within .ensures .rounds }
+          solves-from (c .args .arena) _ (lent (c .solve-within .last .known) (c .solve-within .last .answers) (c .solve-within .last .ranks) (c .solve-within .last .waits) (c .solve-within .last .layers) (c .solve-within .last .avoids) (c .solve-within .last .moves) (c .solve-within .last .turns))
+          _ _ _ _ _ _ _ _
+          (record { size = omega arith; fits = t .0; len = k .known })
+          (record { size = omega arith; fits = t .1; len = k .answers })
+          (record { size = omega arith; fits = t .2; len = k .ranks })
+          (record { size = omega arith; fits = t .3; len = k .waits })
+          (record { size = omega arith; fits = w .0; len = k .layers })
+          (record { size = omega arith; fits = w .1; len = k .avoids })
+          (record { size = omega (arith, r); fits = w .2; len = k .moves })
+          (record { size = omega (arith, r); fits = w .3; len = k .turns })
+          (c .solve-within .ensures .solution);
+      rounds = c .solve-within .ensures .rounds;
+    }
