@@ -5,6 +5,7 @@ ghost use Rattle.std.specs.Results.{isErr};
 use game::refusal::Refusal;
 use std::env;
 use std::error::AnyError;
+use std::fs;
 use std::fs::File;
 use std::io;
 use std::io::Read;
@@ -37,6 +38,30 @@ pub fn load(rt: &LibcRuntime, program: &str, path: &str, most: u64) -> Result<Ve
                 "{program}: cannot read {path}: {error}; name a file that exists and may be read"
             )?;
             Err("unreadable".into())
+        }
+    }
+}
+
+// Writes the bytes under another name, which then takes the place of the file: so the file is written whole or not at all.
+fn replace(rt: &LibcRuntime, path: &str, bytes: &[u8]) -> io::Result<()> {
+    let part = format!(rt.alloc(), "{path}.part")?;
+    if let Err(error) = fs::write(rt, part.as_str(), bytes) {
+        let _ = fs::remove_file(rt, part.as_str());
+        return Err(error);
+    }
+    fs::rename(rt, part.as_str(), path)
+}
+
+// The same, and where it fails a line that says which file and what to do.
+pub fn save(rt: &LibcRuntime, program: &str, path: &str, bytes: &[u8]) -> Result<(), AnyError> {
+    match replace(rt, path, bytes) {
+        Ok(()) => Ok(()),
+        Err(error) => {
+            eprintln!(
+                rt,
+                "{program}: cannot write {path}: {error}; name a file in a folder that may be written"
+            )?;
+            Err("unwritten".into())
         }
     }
 }
