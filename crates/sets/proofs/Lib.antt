@@ -1,0 +1,4 @@
+pub mod Members
+pub mod Arenas
+pub mod Counts
+pub mod Steps

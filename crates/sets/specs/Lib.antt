@@ -1,0 +1,4 @@
+pub mod Member
+pub mod Arena
+pub mod Step
+pub mod Count

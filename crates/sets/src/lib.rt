@@ -1,0 +1,4 @@
+// Sets of states in lent memory, the tabulated game (the arena), and one step back in it.
+pub mod arena;
+pub mod set;
+pub mod step;
