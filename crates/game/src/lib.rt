@@ -2,7 +2,7 @@
 mod reader;
 pub mod refusal;
 pub mod rules;
-mod section;
+pub mod section;
 mod steps;
 pub mod theorems;
 pub mod widths;

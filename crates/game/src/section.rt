@@ -9,7 +9,7 @@ use crate::rules::Section;
 use formula::Formula;
 
 // The first formula of a row, and the row after it; both are empty where the row is.
-fn cut<'a>(bytes: &'a [u8]) -> (Formula<'a>, &'a [u8])
+pub fn cut<'a>(bytes: &'a [u8]) -> (Formula<'a>, &'a [u8])
     ensures first { λ r. ⌜ now (r .0 .bytes) ≡ first-formula (now (bytes .entry)) ⌝ }
     ensures others { λ r. ⌜ now (r .1) ≡ other-formulas (now (bytes .entry)) ⌝ }
 {

@@ -1,0 +1,51 @@
+-- What the tables of a game hold. Assumes nothing.
+--   Legal-table     a word for each state: its legal moves
+--   Allowed-table   a word for each state and move: the allowed answers, none where the move is not legal
+--   Next-row        for each answer to one move the state after it, and 0 where the answer is not allowed
+--   Next-table      such a row for each state and move
+--   State-table     a byte for each state: which promises, or which goals, hold in it
+--   Tabulated       the five tables of a game, by state, move and answer
+use mathlib.Core.Path.{_≡_}
+use mathlib.Core.Bool.{Bool, cond, _&&_}
+use mathlib.Core.List.{List}
+use Prim.Native.Nat.{ℕ, _+_, _*_, _/_, _%_, _<_}
+use lib.ListN.{length, getD}
+use Rattle.formula.specs.Bits.{bit}
+use Rattle.formula.specs.Values.{Spread}
+use Rattle.game.specs.Game.{Game}
+
+-- bit e of entry s: the environment may make the move e in the state s
+abbrev pub Legal-table : Game → List ℕ → Type 0
+Legal-table g legal = (s : ℕ) → s < length legal → Spread (getD legal s 0) (g .moves s)
+
+-- bit a of entry k, which is for the state k / moves and the move k % moves: that move is in the table of legal moves, and
+-- the answer a to it is allowed
+abbrev pub Allowed-table : Game → ℕ → List ℕ → List ℕ → Type 0
+Allowed-table g moves legal allowed =
+    (k : ℕ) → k < length allowed →
+    Spread (getD allowed k 0) (λ a. bit (getD legal (k / moves) 0) (k % moves) && g .allowed (k / moves) (k % moves) a)
+
+-- entry a: the state after the answer a, where it is allowed
+abbrev pub Next-row : (ℕ → ℕ) → ℕ → List ℕ → Type 0
+Next-row after allowed row = (a : ℕ) → a < length row → getD row a 0 ≡ cond (bit allowed a) (after a) 0
+
+-- entry k·answers + a, which is for the state k / moves, the move k % moves and the answer a
+abbrev pub Next-table : Game → ℕ → ℕ → List ℕ → List ℕ → Type 0
+Next-table g moves answers allowed next =
+    (k a : ℕ) → k < length allowed → a < answers →
+    getD next (k * answers + a) 0 ≡ cond (bit (getD allowed k 0) a) (g .after (k / moves) (k % moves) a) 0
+
+-- bit i of entry s: what has the number i holds in the state s
+abbrev pub State-table : (ℕ → ℕ → Bool) → List ℕ → Type 0
+State-table holds table = (s : ℕ) → s < length table → (i : ℕ) → i < 8 → bit (getD table s 0) i ≡ holds i s
+
+-- The tables have the game's answers; but where a move is not legal, no answer to it is allowed in them, and where an
+-- answer is not allowed, the state after it is 0: no play goes there.
+pub record Tabulated (g : Game) (states moves answers : ℕ) (legal allowed next promises goals : List ℕ) : Type 0 where
+  pub moves-of : (s e : ℕ) → s < states → e < moves → bit (getD legal s 0) e ≡ g .moves s e
+  pub allowed-of : (s e a : ℕ) → s < states → e < moves → a < answers →
+      bit (getD allowed (s * moves + e) 0) a ≡ (g .moves s e && g .allowed s e a)
+  pub after-of : (s e a : ℕ) → s < states → e < moves → a < answers →
+      getD next ((s * moves + e) * answers + a) 0 ≡ cond (g .moves s e && g .allowed s e a) (g .after s e a) 0
+  pub promise-of : (i s : ℕ) → i < 8 → s < states → bit (getD promises s 0) i ≡ g .promise i s
+  pub goal-of : (j s : ℕ) → j < 8 → s < states → bit (getD goals s 0) j ≡ g .goal j s
