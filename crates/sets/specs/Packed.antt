@@ -2,6 +2,7 @@
 --   digit   a bit as a number
 --   four    the word of four numbers in neighbouring lanes
 --   field   number j of the four in a word
+--   Fits-doubled, Doubled   each number of each word doubled, and a bit added
 --   spelt   the number that formulas spell in a lane, where a mask has that lane
 --   Spelt   sixteen words hold the numbers of 64 lanes
 use mathlib.Core.Path.{_≡_}
@@ -23,6 +24,14 @@ four f l = f l + 65536 * (f (l + 1) + 65536 * (f (l + 2) + 65536 * f (l + 3)))
 -- number j of the four in a word
 abbrev pub field : ℕ → ℕ → ℕ
 field word j = word / 2 ^ (16 * j) % 65536
+
+-- there is room for the numbers of twice the size
+abbrev pub Fits-doubled : ℕ → List ℕ → Type 0
+Fits-doubled values before = (q : ℕ) → q < 16 → 2 * getD before q 0 + four (digit values) (4 * q) < 2 ^ 64
+
+-- word q is doubled, and the bits of its four lanes are added
+abbrev pub Doubled : ℕ → List ℕ → List ℕ → Type 0
+Doubled values before after = (q : ℕ) → q < 16 → getD after q 0 ≡ 2 * getD before q 0 + four (digit values) (4 * q)
 
 -- the number that the formulas spell in the state s, at the move e and the answer l; 0 where the mask lacks the lane l
 abbrev pub spelt : List (List ℕ) → ℕ → ℕ → ℕ → ℕ → ℕ

@@ -1,29 +1,35 @@
 -- What the tables of a game hold. Assumes nothing.
 --   Legal-table     a word for each state: its legal moves
+--   allowed-at      whether an answer is allowed to a legal move, by the number of its entry
 --   Allowed-table   a word for each state and move: the allowed answers, none where the move is not legal
 --   Next-row        for each answer to one move the state after it, and 0 where the answer is not allowed
 --   Next-table      such a row for each state and move
---   State-table     a byte for each state: which promises, or which goals, hold in it
+--   holds-of        in which states each formula of a row holds
+--   State-row       a byte: which promises, or which goals, hold in one state
+--   State-table     such a byte for each state
 --   Tabulated       the five tables of a game, by state, move and answer
 use mathlib.Core.Path.{_≡_}
 use mathlib.Core.Bool.{Bool, cond, _&&_}
-use mathlib.Core.List.{List}
+use mathlib.Core.List.{List, []}
 use Prim.Native.Nat.{ℕ, _+_, _*_, _/_, _%_, _<_}
 use lib.ListN.{length, getD}
 use Rattle.formula.specs.Bits.{bit}
 use Rattle.formula.specs.Values.{Spread}
 use Rattle.game.specs.Game.{Game}
+use Rattle.game.specs.Meaning.{value-of}
 
 -- bit e of entry s: the environment may make the move e in the state s
 abbrev pub Legal-table : Game → List ℕ → Type 0
 Legal-table g legal = (s : ℕ) → s < length legal → Spread (getD legal s 0) (g .moves s)
 
--- bit a of entry k, which is for the state k / moves and the move k % moves: that move is in the table of legal moves, and
--- the answer a to it is allowed
+-- The answer a of entry k, which is for the state k / moves and the move k % moves: that move is in the table of legal
+-- moves, and the answer to it is allowed.
+abbrev pub allowed-at : Game → ℕ → List ℕ → ℕ → ℕ → Bool
+allowed-at g moves legal k a = bit (getD legal (k / moves) 0) (k % moves) && g .allowed (k / moves) (k % moves) a
+
+-- bit a of entry k
 abbrev pub Allowed-table : Game → ℕ → List ℕ → List ℕ → Type 0
-Allowed-table g moves legal allowed =
-    (k : ℕ) → k < length allowed →
-    Spread (getD allowed k 0) (λ a. bit (getD legal (k / moves) 0) (k % moves) && g .allowed (k / moves) (k % moves) a)
+Allowed-table g moves legal allowed = (k : ℕ) → k < length allowed → Spread (getD allowed k 0) (allowed-at g moves legal k)
 
 -- entry a: the state after the answer a, where it is allowed
 abbrev pub Next-row : (ℕ → ℕ) → ℕ → List ℕ → Type 0
@@ -35,9 +41,17 @@ Next-table g moves answers allowed next =
     (k a : ℕ) → k < length allowed → a < answers →
     getD next (k * answers + a) 0 ≡ cond (bit (getD allowed k 0) a) (g .after (k / moves) (k % moves) a) 0
 
--- bit i of entry s: what has the number i holds in the state s
+-- formula i of the row holds in the state s; one that there is not holds nowhere
+abbrev pub holds-of : List (List ℕ) → ℕ → ℕ → Bool
+holds-of fs s i = value-of (getD fs i []) s 0 0
+
+-- bit i: what has the number i holds
+abbrev pub State-row : (ℕ → Bool) → ℕ → Type 0
+State-row holds byte = (i : ℕ) → i < 8 → bit byte i ≡ holds i
+
+-- entry s is for the state s
 abbrev pub State-table : (ℕ → ℕ → Bool) → List ℕ → Type 0
-State-table holds table = (s : ℕ) → s < length table → (i : ℕ) → i < 8 → bit (getD table s 0) i ≡ holds i s
+State-table holds table = (s : ℕ) → s < length table → State-row (holds s) (getD table s 0)
 
 -- The tables have the game's answers; but where a move is not legal, no answer to it is allowed in them, and where an
 -- answer is not allowed, the state after it is 0: no play goes there.

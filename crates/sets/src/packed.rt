@@ -3,7 +3,7 @@ ghost use mathlib.Core.Path.{_≡_};
 ghost use Prim.Native.Nat.{_*_, _<_, _≤_};
 ghost use lib.ListN.{length};
 ghost use Rattle.game.specs.Content.{formulas-of};
-ghost use Rattle.sets.specs.Packed.{Spelt, field, four, digit};
+ghost use Rattle.sets.specs.Packed.{Doubled, Fits-doubled, Spelt, digit, field, four};
 use crate::lanes::Answers;
 use crate::lanes::AnswersLanes;
 use game::section::cut;
@@ -47,6 +47,17 @@ pub(crate) fn field_of(word: u64, j: usize) -> u16
     ((word >> (16 * j)) % 65536) as u16
 }
 
+// Doubles the number of each lane and adds the lane's bit in `values`.
+fn double(packed: &mut [u64], values: u64)
+    requires room { ⌜ length (now packed) ≡ 16 ⌝ }
+    requires fits { ⌜ Fits-doubled values (now packed) ⌝ }
+    ensures { λ _. ⌜ Doubled values (now (packed .entry)) (now (packed .exit)) ⌝ }
+{
+    for q in 0..WORDS {
+        packed[q] = 2 * packed[q] + apart(values, q);
+    }
+}
+
 // In each lane of the mask the number whose bits are the values of the first n formulas, the lowest first; 0 in the
 // other lanes. The highest bit comes first, so that each formula doubles the numbers and adds its values.
 pub(crate) fn spell(bytes: &[u8], n: u8, step: Answers, mask: u64, packed: &mut [u64])
@@ -60,8 +71,5 @@ pub(crate) fn spell(bytes: &[u8], n: u8, step: Answers, mask: u64, packed: &mut 
     }
     let (first, others) = cut(bytes);
     spell(others, n - 1, step, mask, packed);
-    let values = first.values(&step) & mask;
-    for q in 0..WORDS {
-        packed[q] = 2 * packed[q] + apart(values, q);
-    }
+    double(packed, first.values(&step) & mask);
 }

@@ -2,9 +2,9 @@
 ghost use mathlib.Core.Path.{_≡_};
 ghost use Prim.Native.Nat.{_*_, _^_, _≤_};
 ghost use lib.ListN.{length};
-ghost use Rattle.game.specs.Content.{content};
+ghost use Rattle.game.specs.Content.{content, formulas-of};
 ghost use Rattle.game.specs.Meaning.{game-of};
-ghost use Rattle.sets.specs.Tabulate.{Legal-table, Allowed-table, Next-table, Next-row, State-table};
+ghost use Rattle.sets.specs.Tabulate.{Legal-table, Allowed-table, Next-table, Next-row, State-row, State-table, holds-of};
 use crate::lanes::Answers;
 use crate::lanes::allowed_answers;
 use crate::lanes::legal_moves;
@@ -12,6 +12,8 @@ use crate::packed::WORDS;
 use crate::packed::field_of;
 use crate::packed::spell;
 use game::rules::Rules;
+use game::rules::Section;
+use game::section::spelt;
 use game::widths::STATE_BITS;
 
 // The legal moves of each state.
@@ -77,46 +79,21 @@ pub fn tabulate_next(rules: &Rules<'_>, allowed: &[u64], next: &mut [u16])
     }
 }
 
-// The promises that hold in each state.
-pub fn tabulate_promises(rules: &Rules<'_>, promises: &mut [u8])
-    requires { ⌜ length (now promises) ≤ 65536 ⌝ }
-    ensures { λ _. ⌜ State-table (game-of (content (now (rules .entry))) .promise) (now (promises .exit)) ⌝ }
+// The formulas of a row that hold in a state, one bit each; those after the eighth are left out.
+fn holding(section: Section<'_>, state: u16) -> u8
+    ensures { λ r. ⌜ State-row (holds-of (formulas-of (section .entry .count) (now (section .entry .bytes))) state) r ⌝ }
 {
-    for s in 0..promises.len() {
-        promises[s] = promise_bits(rules, s as u16);
-    }
+    spelt(section.bytes, section.count.min(8), state, 0, 0) as u8
 }
 
-// The goals that hold in each state.
-pub fn tabulate_goals(rules: &Rules<'_>, goals: &mut [u8])
-    requires { ⌜ length (now goals) ≤ 65536 ⌝ }
-    ensures { λ _. ⌜ State-table (game-of (content (now (rules .entry))) .goal) (now (goals .exit)) ⌝ }
+// The formulas of a row that hold in each state.
+pub fn tabulate_states(section: Section<'_>, table: &mut [u8])
+    requires { ⌜ length (now table) ≤ 65536 ⌝ }
+    ensures { λ _. ⌜ State-table (holds-of (formulas-of (section .entry .count) (now (section .entry .bytes)))) (now (table .exit)) ⌝ }
 {
-    for s in 0..goals.len() {
-        goals[s] = goal_bits(rules, s as u16);
+    for s in 0..table.len() {
+        table[s] = holding(section, s as u16);
     }
-}
-
-// The promises that hold in a state, one bit each.
-fn promise_bits(rules: &Rules<'_>, state: u16) -> u8 {
-    let mut bits = 0;
-    for i in 0..8 {
-        if rules.promise_holds(i, state) {
-            bits += 1 << i;
-        }
-    }
-    bits
-}
-
-// The goals that hold in a state, one bit each.
-fn goal_bits(rules: &Rules<'_>, state: u16) -> u8 {
-    let mut bits = 0;
-    for i in 0..8 {
-        if rules.goal_holds(i, state) {
-            bits += 1 << i;
-        }
-    }
-    bits
 }
 
 pub fn tabulate(
@@ -130,6 +107,6 @@ pub fn tabulate(
     tabulate_legal(rules, legal);
     tabulate_allowed(rules, legal, allowed);
     tabulate_next(rules, allowed, next);
-    tabulate_promises(rules, promises);
-    tabulate_goals(rules, goals);
+    tabulate_states(rules.promises, promises);
+    tabulate_states(rules.goals, goals);
 }
