@@ -1,17 +1,22 @@
 -- Tables that are filled entry by entry, and the formulas that hold in a state.
 use mathlib.Core.Path.{_≡_, refl, sym, ap, subst, _∙_}
-use mathlib.Core.Bool.{Bool, true, false, cond}
+use mathlib.Core.Bool.{Bool, true, false, cond, _&&_}
 use mathlib.Core.List.{List, [], _∷_}
 use mathlib.Core.Logic.{_≢_, ⊎-elim}
-use Prim.Native.Nat.{ℕ, zero, suc, _+_, _*_, _/_, _%_, _^_, _<_, _≤_, min}
+use Prim.Native.Nat.{ℕ, zero, suc, _+_, _-_, _*_, _/_, _%_, _^_, _<_, _≤_, min}
 use native.Mathlib.Omega.{arith}
+use native.Mathlib.Nat.{add-mul}
+use borrow.Author.Needs.{needs}
+use borrow.Author.Tests.{eq-eqb, ne-eqb}
+use borrow.Rule.Slice.PartMut.{putMid}
 use lib.Dec.{eqb}
 use lib.Pow.{pow-mono}
-use lib.ListN.{length, getD, set}
-use Rattle.std.proofs.shelf.Bits.{shr-shr, pow-pos, div-below, mod-below}
-use Rattle.std.proofs.shelf.Lists.{getD-set-same, getD-set-other}
+use lib.ListN.{length, getD, set, take, drop}
+use Rattle.std.proofs.shelf.Bits.{shr-shr, pow-pos, div-below, mod-below, mul-le, mul-add-lt}
+use Rattle.std.proofs.shelf.Lists.{getD-set-same, getD-set-other, places}
 use Rattle.std.proofs.shelf.Tests.{cases-eq, cases-lt}
 use Rattle.formula.specs.Bits.{bit}
+use Rattle.formula.specs.Values.{Spread}
 use Rattle.formula.specs.Reading.{forest}
 use Rattle.formula.proofs.Planted.{zero-lane}
 use Rattle.game.specs.Content.{first-formula, other-formulas, formulas-of}
@@ -41,6 +46,50 @@ entry-state k n b m e h = rw e (div-below k (2 ^ b) n (pow-pos b) h)
 
 pub entry-move : (k b m : ℕ) → m ≡ 2 ^ b → k % m < 2 ^ b
 entry-move k b m e = rw e (mod-below k (2 ^ b) (pow-pos b))
+
+-- the values of an entry, where its move is legal; and none where it is not
+pub given-legal : (x w i : ℕ) (v : ℕ → Bool) → w / 2 ^ i % 2 ≡ 1 → Spread x v → Spread x (λ a. bit w i && v a)
+given-legal x w i v legal values l h = rw (eq-eqb (w / 2 ^ i % 2) 1 legal) (values l h)
+
+pub not-legal : (x w i : ℕ) (v : ℕ → Bool) → (w / 2 ^ i % 2 ≡ 1 → ⊥) → x ≡ 0 → Spread x (λ a. bit w i && v a)
+not-legal x w i v illegal none l h = rw (ne-eqb (w / 2 ^ i % 2) 1 illegal, none) (zero-lane l)
+
+-- ---- rows of answers
+
+most-entries : (a b c : ℕ) → 2 ^ min a 12 * 2 ^ min b 6 * 2 ^ min c 6 ≤ 16777216
+most-entries a b c =
+    mul-le (2 ^ min a 12 * 2 ^ min b 6) (2 ^ min c 6) 262144 64
+    (mul-le (2 ^ min a 12) (2 ^ min b 6) 4096 64 (most-states a) (most-moves b)) (most-moves c)
+
+-- row k of n rows of w entries ends within them
+row-end : (k w n : ℕ) → k < n → k * w + w ≤ n * w
+row-end k w n h = omega (arith, add-mul k 1 w, mul-le (k + 1) w n w (omega arith) (omega arith))
+
+pub row-within : (k w v n size : ℕ) → k < n → w ≡ v → size ≡ n * v → k * w + w ≤ size
+row-within k w v n size h w-is size-is = rw (w-is, size-is) (row-end k v n h)
+
+pub few-entries : (a b c n size : ℕ) → n ≡ 2 ^ min a 12 * 2 ^ min b 6 → size ≡ n * 2 ^ min c 6 → size ≤ 16777216
+few-entries a b c n size n-is size-is = rw (size-is, n-is) (most-entries a b c)
+
+pub row-length : (at w : ℕ) (xs : List ℕ) → at + w ≤ length xs → length (take (at + w - at) (drop at xs)) ≡ w
+row-length at w xs h = search (needs, places)
+
+-- what a part of a list holds after it was written, and what the list holds before that part
+at-part : (a n i : ℕ) (xs ys : List ℕ) → a ≤ length xs → i < length ys → getD (putMid a n xs ys) (a + i) 0 ≡ getD ys i 0
+at-part a n i xs ys h l = search (needs, places)
+
+before-part : (a n i : ℕ) (xs ys : List ℕ) → a ≤ length xs → i < a → getD (putMid a n xs ys) i 0 ≡ getD xs i 0
+before-part a n i xs ys h l = search (needs, places)
+
+-- the rows below k + 1, once row k is written
+pub row-more : (F : ℕ → ℕ → ℕ) (w k n : ℕ) (xs ys : List ℕ) → k * w + w ≤ length xs → length ys ≡ w →
+    ((j : ℕ) → j < k → (a : ℕ) → a < w → getD xs (j * w + a) 0 ≡ F j a) → ((a : ℕ) → a < w → getD ys a 0 ≡ F k a) →
+    (j : ℕ) → j < k + 1 → (a : ℕ) → a < w → getD (putMid (k * w) n xs ys) (j * w + a) 0 ≡ F j a
+row-more F w k n xs ys h size below here j l a b =
+    ⊎-elim
+    (λ (same : j ≡ k). rw same (at-part (k * w) n a xs ys (omega arith) (omega arith) ∙ here a b))
+    (λ other. before-part (k * w) n (j * w + a) xs ys (omega arith) (omega (arith, mul-add-lt j w a k (omega arith) b)) ∙ below j (omega arith) a b)
+    (cases-eq j k)
 
 -- ---- formulas that hold in a state
 

@@ -3,7 +3,8 @@
 --   allowed-at      whether an answer is allowed to a legal move, by the number of its entry
 --   Allowed-table   a word for each state and move: the allowed answers, none where the move is not legal
 --   Next-row        for each answer to one move the state after it, and 0 where the answer is not allowed
---   Next-table      such a row for each state and move
+--   next-at         an entry of such a row, by the row's number
+--   Next-table      a row for each state and move
 --   holds-of        in which states each formula of a row holds
 --   State-row       a byte: which promises, or which goals, hold in one state
 --   State-table     such a byte for each state
@@ -35,11 +36,14 @@ Allowed-table g moves legal allowed = (k : ℕ) → k < length allowed → Sprea
 abbrev pub Next-row : (ℕ → ℕ) → ℕ → List ℕ → Type 0
 Next-row after allowed row = (a : ℕ) → a < length row → getD row a 0 ≡ cond (bit allowed a) (after a) 0
 
--- entry k·answers + a, which is for the state k / moves, the move k % moves and the answer a
+-- the entry of the answer a in row k, which is for the state k / moves and the move k % moves
+abbrev pub next-at : Game → ℕ → List ℕ → ℕ → ℕ → ℕ
+next-at g moves allowed k a = cond (bit (getD allowed k 0) a) (g .after (k / moves) (k % moves) a) 0
+
+-- row k begins at k·answers
 abbrev pub Next-table : Game → ℕ → ℕ → List ℕ → List ℕ → Type 0
 Next-table g moves answers allowed next =
-    (k a : ℕ) → k < length allowed → a < answers →
-    getD next (k * answers + a) 0 ≡ cond (bit (getD allowed k 0) a) (g .after (k / moves) (k % moves) a) 0
+    (k : ℕ) → k < length allowed → (a : ℕ) → a < answers → getD next (k * answers + a) 0 ≡ next-at g moves allowed k a
 
 -- formula i of the row holds in the state s; one that there is not holds nowhere
 abbrev pub holds-of : List (List ℕ) → ℕ → ℕ → Bool
