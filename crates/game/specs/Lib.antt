@@ -10,3 +10,4 @@ pub mod Meaning
 pub mod Parts
 pub mod Finite
 pub mod Samples
+pub mod Agree

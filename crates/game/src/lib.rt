@@ -1,4 +1,5 @@
 // Games, plays and winning: what the rules of a game mean, and the theorems that everything above rests on.
+pub mod agree;
 mod reader;
 pub mod refusal;
 pub mod rules;

@@ -8,16 +8,19 @@
 --   holds-of        in which states each formula of a row holds
 --   State-row       a byte: which promises, or which goals, hold in one state
 --   State-table     such a byte for each state
---   Tabulated       the five tables of a game, by state, move and answer
+--   state-count, move-count, answer-count   how many there are
+--   Sized           the lengths of the five tables
+--   Tabulated       what the five tables hold, by state, move and answer
 use mathlib.Core.Path.{_≡_}
 use mathlib.Core.Bool.{Bool, cond, _&&_}
 use mathlib.Core.List.{List, []}
-use Prim.Native.Nat.{ℕ, _+_, _*_, _/_, _%_, _<_}
+use Prim.Native.Nat.{ℕ, _+_, _*_, _/_, _%_, _^_, _<_}
 use lib.ListN.{length, getD}
 use Rattle.formula.specs.Bits.{bit}
 use Rattle.formula.specs.Values.{Spread}
 use Rattle.game.specs.Game.{Game}
-use Rattle.game.specs.Meaning.{value-of}
+use Rattle.game.specs.Content.{Content}
+use Rattle.game.specs.Meaning.{value-of, game-of}
 
 -- bit e of entry s: the environment may make the move e in the state s
 abbrev pub Legal-table : Game → List ℕ → Type 0
@@ -57,13 +60,32 @@ State-row holds byte = (i : ℕ) → i < 8 → bit byte i ≡ holds i
 abbrev pub State-table : (ℕ → ℕ → Bool) → List ℕ → Type 0
 State-table holds table = (s : ℕ) → s < length table → State-row (holds s) (getD table s 0)
 
+-- how many states, moves and answers the rules have
+abbrev pub state-count : Content → ℕ
+state-count c = 2 ^ c .state
+
+abbrev pub move-count : Content → ℕ
+move-count c = 2 ^ c .moves
+
+abbrev pub answer-count : Content → ℕ
+answer-count c = 2 ^ c .answer
+
+-- there is room for the five tables, and no more
+pub record Sized (c : Content) (legal allowed next promises goals : List ℕ) : Type 0 where
+  pub legal-size : length legal ≡ state-count c
+  pub allowed-size : length allowed ≡ state-count c * move-count c
+  pub next-size : length next ≡ state-count c * move-count c * answer-count c
+  pub promises-size : length promises ≡ state-count c
+  pub goals-size : length goals ≡ state-count c
+
 -- The tables have the game's answers; but where a move is not legal, no answer to it is allowed in them, and where an
 -- answer is not allowed, the state after it is 0: no play goes there.
-pub record Tabulated (g : Game) (states moves answers : ℕ) (legal allowed next promises goals : List ℕ) : Type 0 where
-  pub moves-of : (s e : ℕ) → s < states → e < moves → bit (getD legal s 0) e ≡ g .moves s e
-  pub allowed-of : (s e a : ℕ) → s < states → e < moves → a < answers →
-      bit (getD allowed (s * moves + e) 0) a ≡ (g .moves s e && g .allowed s e a)
-  pub after-of : (s e a : ℕ) → s < states → e < moves → a < answers →
-      getD next ((s * moves + e) * answers + a) 0 ≡ cond (g .moves s e && g .allowed s e a) (g .after s e a) 0
-  pub promise-of : (i s : ℕ) → i < 8 → s < states → bit (getD promises s 0) i ≡ g .promise i s
-  pub goal-of : (j s : ℕ) → j < 8 → s < states → bit (getD goals s 0) j ≡ g .goal j s
+pub record Tabulated (c : Content) (legal allowed next promises goals : List ℕ) : Type 0 where
+  pub moves-in : (s e : ℕ) → s < state-count c → e < move-count c → bit (getD legal s 0) e ≡ game-of c .moves s e
+  pub allowed-in : (s e a : ℕ) → s < state-count c → e < move-count c → a < answer-count c →
+      bit (getD allowed (s * move-count c + e) 0) a ≡ (game-of c .moves s e && game-of c .allowed s e a)
+  pub after-in : (s e a : ℕ) → s < state-count c → e < move-count c → a < answer-count c →
+      getD next ((s * move-count c + e) * answer-count c + a) 0
+      ≡ cond (game-of c .moves s e && game-of c .allowed s e a) (game-of c .after s e a) 0
+  pub promise-in : (i s : ℕ) → i < 8 → s < state-count c → bit (getD promises s 0) i ≡ game-of c .promise i s
+  pub goal-in : (j s : ℕ) → j < 8 → s < state-count c → bit (getD goals s 0) j ≡ game-of c .goal j s

@@ -1,10 +1,13 @@
 // The game of the rules, evaluated once into lent tables.
 ghost use mathlib.Core.Path.{_≡_};
-ghost use Prim.Native.Nat.{_*_, _^_, _≤_};
+ghost use Prim.Native.Nat.{_*_, _≤_};
 ghost use lib.ListN.{length};
-ghost use Rattle.game.specs.Content.{content, formulas-of};
+ghost use Rattle.game.specs.Agree.{Agree};
+ghost use Rattle.game.specs.Content.{Valid, content, formulas-of};
 ghost use Rattle.game.specs.Meaning.{game-of};
-ghost use Rattle.sets.specs.Tabulate.{Legal-table, Allowed-table, Next-table, Next-row, State-row, State-table, holds-of};
+ghost use Rattle.sets.specs.Arena.{arena-game};
+ghost use Rattle.sets.specs.Tabulate.{Allowed-table, Legal-table, Next-row, Next-table, Sized, State-row, State-table, answer-count, holds-of, move-count, state-count};
+use crate::arena::Arena;
 use crate::lanes::Answers;
 use crate::lanes::allowed_answers;
 use crate::lanes::legal_moves;
@@ -28,9 +31,9 @@ pub fn tabulate_legal(rules: &Rules<'_>, legal: &mut [u64])
 
 // The allowed answers to each legal move; none to one that is not legal, so that it costs no evaluation.
 pub fn tabulate_allowed(rules: &Rules<'_>, legal: &[u64], allowed: &mut [u64])
-    requires size { ⌜ length (now allowed) ≡ 2 ^ content (now rules) .state * 2 ^ content (now rules) .moves ⌝ }
-    requires known { ⌜ length (now legal) ≡ 2 ^ content (now rules) .state ⌝ }
-    ensures { λ _. ⌜ Allowed-table (game-of (content (now (rules .entry)))) (2 ^ content (now (rules .entry)) .moves) (now (legal .entry)) (now (allowed .exit)) ⌝ }
+    requires size { ⌜ length (now allowed) ≡ state-count (content (now rules)) * move-count (content (now rules)) ⌝ }
+    requires known { ⌜ length (now legal) ≡ state-count (content (now rules)) ⌝ }
+    ensures { λ _. ⌜ Allowed-table (game-of (content (now (rules .entry)))) (move-count (content (now (rules .entry)))) (now (legal .entry)) (now (allowed .exit)) ⌝ }
 {
     let moves = rules.widths.moves() as usize;
     for k in 0..allowed.len() {
@@ -63,9 +66,9 @@ fn states_after(rules: &Rules<'_>, step: Answers, allowed: u64, row: &mut [u16])
 
 // The state after each allowed answer to each legal move.
 pub fn tabulate_next(rules: &Rules<'_>, allowed: &[u64], next: &mut [u16])
-    requires size { ⌜ length (now allowed) ≡ 2 ^ content (now rules) .state * 2 ^ content (now rules) .moves ⌝ }
-    requires room { ⌜ length (now next) ≡ length (now allowed) * 2 ^ content (now rules) .answer ⌝ }
-    ensures { λ _. ⌜ Next-table (game-of (content (now (rules .entry)))) (2 ^ content (now (rules .entry)) .moves) (2 ^ content (now (rules .entry)) .answer) (now (allowed .entry)) (now (next .exit)) ⌝ }
+    requires size { ⌜ length (now allowed) ≡ state-count (content (now rules)) * move-count (content (now rules)) ⌝ }
+    requires room { ⌜ length (now next) ≡ length (now allowed) * answer-count (content (now rules)) ⌝ }
+    ensures { λ _. ⌜ Next-table (game-of (content (now (rules .entry)))) (move-count (content (now (rules .entry)))) (answer-count (content (now (rules .entry)))) (now (allowed .entry)) (now (next .exit)) ⌝ }
 {
     let moves = rules.widths.moves() as usize;
     let answers = rules.widths.answers() as usize;
@@ -96,17 +99,36 @@ pub fn tabulate_states(section: Section<'_>, table: &mut [u8])
     }
 }
 
-pub fn tabulate(
+// The game of the rules as an arena, in the tables that are lent. The two agree wherever a play goes, so a plan, a
+// counterstrategy or a controller is as good in the one as in the other.
+pub fn tabulate<'a>(
     rules: &Rules<'_>,
-    legal: &mut [u64],
-    allowed: &mut [u64],
-    next: &mut [u16],
-    promises: &mut [u8],
-    goals: &mut [u8],
-) {
+    legal: &'a mut [u64],
+    allowed: &'a mut [u64],
+    next: &'a mut [u16],
+    promises: &'a mut [u8],
+    goals: &'a mut [u8],
+) -> Arena<'a>
+    requires sound { ⌜ Valid (content (now rules)) ⌝ }
+    requires room { ⌜ Sized (content (now rules)) (now legal) (now allowed) (now next) (now promises) (now goals) ⌝ }
+    ensures agrees { λ r. ⌜ Agree (arena-game r) (game-of (content (now (rules .entry)))) ⌝ }
+    ensures states { λ r. ⌜ r .states ≡ state-count (content (now (rules .entry))) ⌝ }
+{
     tabulate_legal(rules, legal);
     tabulate_allowed(rules, legal, allowed);
     tabulate_next(rules, allowed, next);
     tabulate_states(rules.promises, promises);
     tabulate_states(rules.goals, goals);
+    Arena {
+        states: rules.widths.states() as usize,
+        moves: rules.widths.moves() as usize,
+        answers: rules.widths.answers() as usize,
+        promise_count: rules.promises.count as usize,
+        goal_count: rules.goals.count as usize,
+        legal,
+        allowed,
+        next,
+        promises,
+        goals,
+    }
 }
