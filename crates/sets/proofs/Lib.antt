@@ -5,3 +5,4 @@ pub mod Steps
 pub mod LaneWords
 pub mod Packings
 pub mod Tables
+pub mod Agreeing

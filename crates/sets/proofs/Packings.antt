@@ -1,5 +1,5 @@
 -- Four numbers in a word: bits set apart, numbers doubled, and fields read; and the numbers that formulas spell.
-use mathlib.Core.Path.{_≡_, refl, sym, ap, _∙_}
+use mathlib.Core.Path.{_≡_, refl, sym, ap, subst, _∙_}
 use mathlib.Core.Bool.{Bool, true, false, cond, _&&_}
 use mathlib.Core.List.{List, [], _∷_}
 use mathlib.Core.Logic.{_⊎_, inl, inr, ⊎-elim, _≢_}
@@ -111,18 +111,22 @@ field-four f a b = at (a % 4) refl (omega arith)
 
 -- ---- numbers that formulas spell
 
--- n formulas spell a number of n bits
-pub number-below : (n : ℕ) (bs : List ℕ) (s e a : ℕ) → number (formulas-of n bs) s e a < 2 ^ n
-number-below zero bs s e a = omega arith
-number-below (suc n) bs s e a =
-    omega (arith, pow-suc 2 n, digit-small (value-of (first-formula bs) s e a), number-below n (other-formulas bs) s e a)
+-- formulas spell a number of as many bits
+pub number-below : (fs : List (List ℕ)) (s e a : ℕ) → number fs s e a < 2 ^ length fs
+number-below [] s e a = omega arith
+number-below (f ∷ fs) s e a = omega (arith, pow-suc 2 (length fs), digit-small (value-of f s e a), number-below fs s e a)
 
-pick-below : (b : Bool) (n m : ℕ) → n < m → cond b n 0 < m
+pub formulas-length : (n : ℕ) (bs : List ℕ) → length (formulas-of n bs) ≡ n
+formulas-length zero bs = refl
+formulas-length (suc n) bs = omega (arith, formulas-length n (other-formulas bs))
+
+pub pick-below : (b : Bool) (n m : ℕ) → n < m → cond b n 0 < m
 pick-below true n m h = h
 pick-below false n m h = omega arith
 
 pub spelt-below : (n : ℕ) (bs : List ℕ) (s e mask l : ℕ) → spelt (formulas-of n bs) s e mask l < 2 ^ n
-spelt-below n bs s e mask l = pick-below (bit mask l) _ _ (number-below n bs s e l)
+spelt-below n bs s e mask l =
+    pick-below (bit mask l) _ _ (subst (λ k. number (formulas-of n bs) s e l < 2 ^ k) (formulas-length n bs) (number-below (formulas-of n bs) s e l))
 
 -- one more formula: the numbers double, and its values are added
 pub spelt-doubled : (n : ℕ) (bs : List ℕ) (s e mask w : ℕ) → 0 < n → Spread w (value-of (first-formula bs) s e) →
