@@ -9,18 +9,18 @@ use Rattle.std.proofs.shelf.Ways.{decides-below-and}
 use Rattle.formula.specs.Bits.{bit}
 
 -- whether two tests agree
-agree : (x y : Bool) → Decides (Bool·beq x y) (x ≡ y)
+pub agree : (x y : Bool) → Decides (Bool·beq x y) (x ≡ y)
 agree true true = (λ _. refl, λ _. refl)
 agree true false = (λ e. sym e, λ e. sym e)
 agree false true = (λ e. e, λ e. e)
 agree false false = (λ _. refl, λ _. refl)
 
 -- a test of every number below n
-abbrev each : (ℕ → Bool) → ℕ → Bool
+abbrev pub each : (ℕ → Bool) → ℕ → Bool
 each p zero = true
 each p (suc n) = p n && each p n
 
-each-decides : (p : ℕ → Bool) (P : ℕ → Type 0) → ((k : ℕ) → Decides (p k) (P k)) → (n : ℕ) → Decides (each p n) ((k : ℕ) → k < n → P k)
+pub each-decides : (p : ℕ → Bool) (P : ℕ → Type 0) → ((k : ℕ) → Decides (p k) (P k)) → (n : ℕ) → Decides (each p n) ((k : ℕ) → k < n → P k)
 each-decides p P d = decides-below-and p P (each p) d refl (λ _. refl)
 
 -- a word of ones

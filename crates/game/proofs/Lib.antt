@@ -15,3 +15,4 @@ pub mod Beats
 pub mod Loses
 pub mod Tested
 pub mod Sampled
+pub mod Agreement

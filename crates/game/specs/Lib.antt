@@ -11,3 +11,4 @@ pub mod Parts
 pub mod Finite
 pub mod Samples
 pub mod Laws
+pub mod Agree

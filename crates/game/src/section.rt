@@ -9,7 +9,7 @@ use crate::rules::Section;
 use formula::Formula;
 
 // The first formula of a row, and the row after it; both are empty where the row is.
-pub(crate) fn cut<'a>(bytes: &'a [u8]) -> (Formula<'a>, &'a [u8])
+pub fn cut<'a>(bytes: &'a [u8]) -> (Formula<'a>, &'a [u8])
     ensures first { λ r. ⌜ now (r .0 .bytes) ≡ first-formula (now (bytes .entry)) ⌝ }
     ensures others { λ r. ⌜ now (r .1) ≡ other-formulas (now (bytes .entry)) ⌝ }
 {
@@ -29,7 +29,7 @@ fn nth<'a>(bytes: &'a [u8], i: u8) -> Formula<'a>
 }
 
 // The number whose bits are the values of the first n formulas of a row, the lowest first.
-pub(crate) fn spelt(bytes: &[u8], n: u8, state: u16, moved: u8, answer: u8) -> u16
+pub fn spelt(bytes: &[u8], n: u8, state: u16, moved: u8, answer: u8) -> u16
     requires { ⌜ n ≤ 16 ⌝ }
     ensures value { λ r. ⌜ r ≡ number (formulas-of n (now (bytes .entry))) state moved answer ⌝ }
     ensures bound { λ r. ⌜ r < 2 ^ n ⌝ }
