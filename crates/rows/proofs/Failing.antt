@@ -3,12 +3,13 @@ use mathlib.Core.Path.{_≡_, refl, sym, ap, _∙_}
 use mathlib.Core.Bool.{Bool, true, false, cond, _&&_}
 use mathlib.Core.Logic.{_⊎_, inl, inr, ⊎-elim}
 use Prim.Native.Nat.{ℕ, zero, suc, _+_, _^_, _<_, _≤_}
+use lib.Dec.{ltb}
 use lib.ListN.{length}
 use native.Mathlib.Omega.{arith}
 use native.Mathlib.Numerals.{add-one}
 use Rattle.std.specs.declared.option.Option.{Option}
 use Rattle.std.specs.declared.option.Option.the-variants.{Some, None}
-use Rattle.std.proofs.shelf.Tests.{cases-lt, cases-eq, cases-bool, and-from, and-left, and-right}
+use Rattle.std.proofs.shelf.Tests.{cases-lt, lt-ltb, le-ltb, and-left, and-right}
 use Rattle.game.specs.Finite.{all}
 use Rattle.std.specs.declared.result.Result.the-variants.{Ok, Err}
 use Rattle.game.specs.declared.refusal.Refusal.{Refusal}
@@ -60,6 +61,13 @@ all-fails test (suc n) k h here =
     (λ l. let e : n ≡ k = omega arith in and-left (test n) (all n test) (ap test e ∙ here))
     (cases-lt k n)
 
+-- the end of such a loop, and where it stops; its bound is n in the code and m in the definition
+pub all-end : (test : ℕ → Bool) (i n m : ℕ) → n ≤ i → i ≤ n → n ≡ m → all i test ≡ true → true ≡ all m test
+all-end test i n m a b e h = let same : i ≡ m = omega arith in sym (ap (λ k. all k test) (sym same) ∙ h)
+
+pub all-stop : (test : ℕ → Bool) (n m k : ℕ) → n ≡ m → k < n → test k ≡ false → false ≡ all m test
+all-stop test n m k e h here = sym (all-fails test m k (omega arith) here)
+
 -- a loop that counts
 pub count-more : (test : ℕ → Bool) (n m : ℕ) → m ≡ count-of n test → test n ≡ true → m + 1 ≡ count-of (n + 1) test
 count-more test n m e here = rw (add-one n, here) (omega (arith, e))
@@ -77,3 +85,10 @@ module _ (c : Content) (sound known : ℕ → Bool) (blame : ℕ → Refusal) (s
   pub at-end : (n m : ℕ) → length (c .starts) ≡ n → None ≡ first-failing n (start-known known (c .starts)) → m ≡ count-of states known →
       Ok (record { known = m }) ≡ verdict-of c sound known blame
   at-end n m l u k = rw (← e, ← fine, l, ← u, k) refl
+
+-- a comparison in the code, of values that are known
+pub below : (a b x y : ℕ) → a ≡ x → b ≡ y → a < b → ltb x y ≡ true
+below a b x y p q h = lt-ltb x y (omega arith)
+
+pub not-below : (a b x y : ℕ) → a ≡ x → b ≡ y → b ≤ a → ltb x y ≡ false
+not-below a b x y p q h = le-ltb x y (omega arith)

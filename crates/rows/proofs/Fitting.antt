@@ -12,7 +12,7 @@ use lib.Pow.{pow-lt}
 use Rattle.std.proofs.shelf.Bits.{mul-le}
 use Rattle.std.proofs.shelf.Lists.{getD-drop}
 use Rattle.std.proofs.shelf.Tests.{cases-lt, le-ltb, lt-ltb, and-left, and-right, and-from, cond-false, cond-true}
-use Rattle.game.specs.Content.{starts-of}
+use Rattle.game.specs.Content.{starts-of, formulas-of, other-formulas}
 use Rattle.game.proofs.FormulaSteps.{take-capped}
 use Rattle.game.proofs.Sections.{drop-capped}
 use Rattle.rows.specs.declared.row.Grid.{Grid}
@@ -66,6 +66,13 @@ pub length-starts : (n : ℕ) (bs : List ℕ) → length (starts-of n bs) ≡ n
 length-starts zero bs = refl
 length-starts (suc n) bs = ap suc (length-starts n (drop 2 bs))
 
--- there are at most 4096 states
-pub few-states : (states bits : ℕ) → states ≡ 2 ^ min bits 12 → states ≤ 65536
-few-states states bits e = ⊎-elim (λ l. omega (arith, pow-lt l)) (λ l. let same : min bits 12 ≡ 12 = omega arith in omega (arith, ap (λ k. 2 ^ k) same)) (cases-lt (min bits 12) 12)
+pub length-formulas : (n : ℕ) (bs : List ℕ) → length (formulas-of n bs) ≡ n
+length-formulas zero bs = refl
+length-formulas (suc n) bs = ap suc (length-formulas n (other-formulas bs))
+
+-- a number of states, moves or answers is within its limit
+pub few : (n bits most : ℕ) → n ≡ 2 ^ min bits most → n ≤ 2 ^ most
+few n bits most e =
+    ⊎-elim (λ l. omega (arith, pow-lt l))
+    (λ l. let same : min bits most ≡ most = omega arith in omega (arith, ap (λ k. 2 ^ k) same))
+    (cases-lt (min bits most) most)

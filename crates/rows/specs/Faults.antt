@@ -2,6 +2,7 @@
 --   first-failing  the least number below a bound at which a test fails
 --   count-of       how many numbers below a bound pass a test
 --   start-known    whether a start, by its number, is known
+--   unless         a refusal that comes first
 --   settled        the first refusal that there is, or acceptance
 --   verdict-of     the verdict on reasons by the tests of their states
 use mathlib.Core.Bool.{Bool, cond}
@@ -36,6 +37,11 @@ count-of (suc n) test = cond (test n) 1 0 + count-of n test
 -- whether start k is known
 abbrev pub start-known : (ℕ → Bool) → List ℕ → ℕ → Bool
 start-known known starts k = known (getD starts k 0)
+
+-- the refusal where there is one, else what comes after
+abbrev pub unless : Option Refusal → Result Accepted Refusal → Result Accepted Refusal
+unless (Some e) r = Err e
+unless None r = r
 
 -- the first refusal that there is; where there is none, acceptance
 abbrev pub settled : Option Refusal → Option Refusal → ℕ → Result Accepted Refusal
