@@ -18,7 +18,8 @@ use mathlib.Core.List.{List}
 use Rattle.std.specs.Options.{mapped}
 use Rattle.std.specs.Results.{isOk}
 use Rattle.std.specs.Orderings.{Decides}
-use Rattle.game.specs.Finite.{all}
+use Rattle.game.specs.Finite.{all, implies}
+use Rattle.game.proofs.Tested.{decides-all}
 use Rattle.rows.specs.Rows.{missized}
 use Rattle.rows.specs.Faults.{earlier, first-failing, count-of, start-known, settled, verdict-of}
 
@@ -129,3 +130,32 @@ sized n bs = by (ltb (length bs) n) (ltb n (length bs)) refl refl
     by true b p q = (λ e. absurd (false≢true e), λ e. absurd (let h = ltb-true _ _ p in omega arith))
     by false true p q = (λ e. absurd (false≢true e), λ e. absurd (let h = ltb-true _ _ q in omega arith))
     by false false p q = (λ _. let h = ltb-false _ _ p in let k = ltb-false _ _ q in omega arith, λ _. refl)
+
+-- a test of each number below a bound is true exactly if it is true at each
+pub each : (test : ℕ → Bool) (n : ℕ) → Decides (all n test) ((k : ℕ) → k < n → test k ≡ true)
+each test n = decides-all test (λ k. test k ≡ true) (λ k. (λ e. e, λ e. e)) n
+
+-- tests that are equal where a first one is true
+pub under : (b : Bool) {x y : Bool} → (b ≡ true → x ≡ y) → implies b x ≡ implies b y
+under true f = f refl
+under false f = refl
+
+pub and-assoc : (x y z : Bool) → (x && (y && z)) ≡ ((x && y) && z)
+and-assoc true y z = refl
+and-assoc false y z = refl
+
+-- a test under a guard, which the code asks first; a count is n in the code and m in the definition
+pub guard-then : (i n m : ℕ) (b x : Bool) → b ≡ x → m ≡ n → i < n → b ≡ (ltb i m && x)
+guard-then i n m b x e k h = rw (lt-ltb i m (omega arith)) e
+
+pub guard-else : (i n m : ℕ) (x : Bool) → m ≡ n → n ≤ i → ltb i n ≡ (ltb i m && x)
+guard-else i n m x k h = rw (le-ltb i m (omega arith), le-ltb i n h) refl
+
+-- a test that is asked only where another is true
+pub implied : (b x : Bool) → implies b x ≡ true → b ≡ true → x ≡ true
+implied true x e h = e
+implied false x e h = absurd (false≢true h)
+
+pub implies-by : (b x : Bool) → (b ≡ true → x ≡ true) → implies b x ≡ true
+implies-by true x f = f refl
+implies-by false x f = refl

@@ -16,21 +16,17 @@ use Rattle.game.specs.declared.refusal.Refusal.the-variants.{TableFault}
 use Rattle.game.specs.Content.{Content}
 use Rattle.game.specs.Meaning.{game-of}
 use Rattle.game.specs.Finite.{all, plan-row, plan-state, plan-test}
-use Rattle.game.proofs.Tested.{decides-all, plan-tested}
+use Rattle.game.proofs.Tested.{plan-tested}
 use Rattle.game.proofs.Wins.{plan-wins}
 use Rattle.rows.specs.declared.judge.Accepted.{Accepted}
 use Rattle.rows.specs.Bounds.{sizes-of}
 use Rattle.rows.specs.Rows.{row-at, length-of, missized}
 use Rattle.rows.specs.Faults.{unless, start-known, verdict-of}
-use Rattle.rows.proofs.Failing.{isNone, decides-verdict, sized}
+use Rattle.rows.proofs.Failing.{each, isNone, decides-verdict, sized}
 use Rattle.rows.proofs.Fitting.{row-is}
 use Rattle.rows.proofs.Within.{rules-within}
 use Rattle.table.specs.Plans.{Sheet, grid-for, sheet-for, plan-of}
 use Rattle.table.specs.Sound.{row-sound, state-sound, table-verdict, Accepts, Wins}
-
--- a test of each number below a bound is true exactly if it is true at each
-pub each : (test : ℕ → Bool) (n : ℕ) → Decides (all n test) ((k : ℕ) → k < n → test k ≡ true)
-each test n = decides-all test (λ k. test k ≡ true) (λ k. (λ e. e, λ e. e)) n
 
 module _ (c : Content) (bs : List ℕ) where
   -- the rows of all states are sound exactly if they are in range and the plan's test is true

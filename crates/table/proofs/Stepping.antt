@@ -12,6 +12,7 @@ use Rattle.game.specs.Plan.{Plan}
 use Rattle.game.specs.Content.{Content}
 use Rattle.game.specs.Meaning.{value-of, game-of}
 use Rattle.game.specs.Finite.{implies, progresses, plan-step}
+use Rattle.rows.proofs.Failing.{under, and-assoc}
 use Rattle.rows.specs.Lanes.{lane-number}
 use Rattle.table.specs.declared.check.Here.{Here}
 use Rattle.table.specs.declared.check.Steps.{Steps}
@@ -24,12 +25,6 @@ fits-then w v n m e k h = grind (arith, tells)
 
 pub fits-else : (w v n m : ℕ) → w ≡ v → m ≡ n → n ≤ w → eqb w 8 ≡ (ltb v m || eqb v 8)
 fits-else w v n m e k h = grind (arith, tells)
-
-pub lacks-then : (i n m : ℕ) (b x : Bool) → b ≡ x → m ≡ n → i < n → not b ≡ (ltb i m && not x)
-lacks-then i n m b x e k h = rw (lt-ltb i m (omega arith), e) refl
-
-pub lacks-else : (i n m : ℕ) (x : Bool) → m ≡ n → n ≤ i → ltb i n ≡ (ltb i m && not x)
-lacks-else i n m x k h = rw (le-ltb i m (omega arith), le-ltb i n h) refl
 
 -- the next goal around
 pub around-then : (j n m : ℕ) → m ≡ n → j + 1 ≡ n → 0 ≡ next-around m j
@@ -64,21 +59,12 @@ regroup false b true true x y = refl
 regroup false b true false x y = refl
 regroup false b false d x y = refl
 
-and-assoc : (x y z : Bool) → (x && (y && z)) ≡ ((x && y) && z)
-and-assoc true y z = refl
-and-assoc false y z = refl
-
 onward-is : (g : Game) (p : Plan) (j s t : ℕ) (h : Here) → StandsFor g p j s h →
     onward p h t ≡ (p .known (goal-after g j s) t && implies (not (g .goal j s)) (progresses g p j s t))
 onward-is g p j s t h for =
     rw (for .later, for .goal, for .reached, for .rank, for .waits, for .waiting)
     (ap (λ x. p .known (goal-after g j s) t && x)
     (regroup (g .goal j s) (ltb (p .rank j t) (p .rank j s)) (eqb (p .rank j t) (p .rank j s)) (eqb (p .waits j t) (p .waits j s)) _ _))
-
--- equal under a test
-under : (b : Bool) {x y : Bool} → (b ≡ true → x ≡ y) → implies b x ≡ implies b y
-under true f = f refl
-under false f = refl
 
 -- the test of a step
 pub step-is : (c : Content) (p : Plan) (j s e : ℕ) (h : Here) (t : Steps) → StandsFor (game-of c) p j s h → StepsOf c p j s t →

@@ -3,15 +3,16 @@ use Prim.Native.Nat.{_+_, _^_, _<_}
 use native.Mathlib.Omega.{arith}
 use denote.Ref.{now}
 use Rattle.rows.proofs.Fitting.{length-formulas}
-use Rattle.table.proofs.Stepping.{lacks-then, lacks-else}
+use mathlib.Core.Bool.{not}
+use Rattle.rows.proofs.Failing.{guard-then, guard-else}
 use Rattle.table.proofs.check.Check.lacking.Needs as need
 
 pub returns-then-promise-self : need.returns-then-promise-self
 returns-then-promise-self c =
-    lacks-then (c .args .promise) (c .args .self .now .rules .promises .count) _ (c .promise-holds .result) _ (c .promise-holds .ensures)
+    guard-then (c .args .promise) (c .args .self .now .rules .promises .count) _ (not (c .promise-holds .result)) _ (ap not (c .promise-holds .ensures))
     (length-formulas (c .args .self .now .rules .promises .count) (now (c .args .self .now .rules .promises .bytes))) (c .if-promise-self .taken)
 
 pub returns-else-promise-self : need.returns-else-promise-self
 returns-else-promise-self c =
-    lacks-else (c .args .promise) (c .args .self .now .rules .promises .count) _ _
+    guard-else (c .args .promise) (c .args .self .now .rules .promises .count) _ _
     (length-formulas (c .args .self .now .rules .promises .count) (now (c .args .self .now .rules .promises .bytes))) (c .if-promise-self .left)

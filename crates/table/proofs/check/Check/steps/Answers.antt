@@ -9,7 +9,7 @@ use Rattle.rows.proofs.Within.{rules-within}
 use Rattle.std.proofs.shelf.Tests.{ltb-true}
 use Rattle.table.specs.Sound.{answer-fits}
 use Rattle.table.proofs.Stepping.{allowed-lane, after-lane}
-use Rattle.table.proofs.Accepting.{each}
+use Rattle.rows.proofs.Failing.{each}
 use Rattle.table.proofs.check.Check.steps.Needs as need
 
 pub returns : need.returns
