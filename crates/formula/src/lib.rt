@@ -15,6 +15,7 @@ pub mod lanes;
 pub mod reading;
 pub mod scope;
 pub mod symbol;
+pub mod theorems;
 mod values;
 
 use lanes::Lanes;
@@ -61,14 +62,11 @@ impl<'a> Formula<'a> {
     pub fn value(self, state: u16, moved: u8, answer: u8) -> bool
         ensures { λ r. ⌜ r ≡ meaning (formula-of (now (self .entry .bytes))) state moved answer ⌝ }
     {
-        self.values(
-            &Step {
-                state,
-                moved,
-                answer,
-            },
-        )
-            % 2
-            == 1
+        let step = Step {
+            state,
+            moved,
+            answer,
+        };
+        self.values(&step) % 2 == 1
     }
 }

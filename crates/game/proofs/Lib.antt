@@ -2,6 +2,9 @@ pub mod FormulaSteps
 pub mod Rows
 pub mod Whole
 pub mod Sections
+pub mod PartInverse
+pub mod RoundTrip
+pub mod Appending
 pub mod Descent
 pub mod Cycle
 pub mod Waiting

@@ -10,4 +10,5 @@ pub mod Meaning
 pub mod Parts
 pub mod Finite
 pub mod Samples
+pub mod Laws
 pub mod Agree

@@ -7,3 +7,4 @@ pub mod section;
 mod steps;
 pub mod theorems;
 pub mod widths;
+mod writer;

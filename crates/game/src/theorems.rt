@@ -1,5 +1,6 @@
-// The theorems of winning. Each function's contract is one theorem, so that the check asks for its proof; nothing is computed.
+// The theorems of winning and of the rules' bytes. Each function's contract is one theorem, so that the check asks for its proof; nothing is computed.
 ghost use Rattle.game.specs.Finite.{Counter-tested, Guarded-within, Plan-tested};
+ghost use Rattle.game.specs.Laws.{Rules-read-written, Rules-written-read};
 ghost use Rattle.game.specs.Samples.{Samples-hold};
 ghost use Rattle.game.specs.Theorems.{Beaten-loses, Counter-wins, Exactly, Follows, Never-both, Plan-wins, Stays-on-plan, Steps-on-plan};
 
@@ -83,6 +84,20 @@ pub fn guarded_within() -> u8
 // Three small games, one won and two lost: the plan and the counterstrategies hold together.
 pub fn samples_hold() -> u8
     ensures { λ _. ⌜ Samples-hold ⌝ }
+{
+    0
+}
+
+// Rules that were read are valid, and are written as the bytes that they were read from.
+pub fn rules_read_written() -> u8
+    ensures { λ _. ⌜ Rules-read-written ⌝ }
+{
+    0
+}
+
+// Valid rules are read from their bytes as what they were.
+pub fn rules_written_read() -> u8
+    ensures { λ _. ⌜ Rules-written-read ⌝ }
 {
     0
 }

@@ -19,17 +19,6 @@ pub struct Widths {
 }
 
 impl Widths {
-    // The bits of the move rule.
-    pub fn move_scope(self) -> Scope
-        ensures { λ r. ⌜ r ≡ move-scope (self .state) (self .moves) ⌝ }
-    {
-        Scope {
-            state: self.state,
-            moves: self.moves,
-            answer: 0,
-        }
-    }
-
     // The bits of the answer rule and of the values after a step.
     pub fn step_scope(self) -> Scope
         ensures { λ r. ⌜ r ≡ step-scope (self .state) (self .moves) (self .answer) ⌝ }
@@ -41,14 +30,23 @@ impl Widths {
         }
     }
 
+    // The bits of the move rule.
+    pub fn move_scope(self) -> Scope
+        ensures { λ r. ⌜ r ≡ move-scope (self .state) (self .moves) ⌝ }
+    {
+        Scope {
+            answer: 0,
+            ..self.step_scope()
+        }
+    }
+
     // The bits of promises and goals.
     pub fn state_scope(self) -> Scope
         ensures { λ r. ⌜ r ≡ state-scope (self .state) ⌝ }
     {
         Scope {
-            state: self.state,
             moves: 0,
-            answer: 0,
+            ..self.move_scope()
         }
     }
 

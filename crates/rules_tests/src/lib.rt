@@ -1,6 +1,7 @@
 // Rules files by hand: one that is read, and for each refusal files that show its number and place.
 #[cfg(test)]
 mod tests {
+    use game::refusal::RefusalDebug;
     use game::rules::Rules;
     use std::test::*;
 
@@ -49,6 +50,14 @@ mod tests {
     #[test]
     fn reads_the_good_file() -> Result<(), Fail> {
         check_eq(fault(&GOOD), (0, 0))
+    }
+
+    #[test]
+    fn writes_what_it_read(rt: LibcRuntime) -> Result<(), Fail> {
+        let rules = Rules::read(&GOOD)?;
+        let mut out = Vec::new(rt.alloc());
+        rules.write(&mut out)?;
+        check(out.as_slice() == &GOOD)
     }
 
     #[test]

@@ -56,12 +56,12 @@ count-in zero X Y s l x y same = absurd (omega arith)
 count-in (suc n) X Y s l x y same =
     ⊎-elim
     (λ e.
-       let inX : unit (X n) ≡ 0 = ap unit (ap X (sym e) ∙ x) in
-       let inY : unit (Y n) ≡ 1 = ap unit (ap Y (sym e) ∙ y) in
-       omega (arith, count-same n Y X (λ t lt. same t (λ q. omega arith))))
+    let inX : unit (X n) ≡ 0 = ap unit (ap X (sym e) ∙ x) in
+    let inY : unit (Y n) ≡ 1 = ap unit (ap Y (sym e) ∙ y) in
+    omega (arith, count-same n Y X (λ t lt. same t (λ q. omega arith))))
     (λ ne.
-       let here : unit (Y n) ≡ unit (X n) = ap unit (same n (λ q. ne (sym q))) in
-       omega (arith, count-in n X Y s (omega arith) x y same)) (cases-eq s n)
+    let here : unit (Y n) ≡ unit (X n) = ap unit (same n (λ q. ne (sym q))) in
+    omega (arith, count-in n X Y s (omega arith) x y same)) (cases-eq s n)
 
 pub count-out : (n : ℕ) (X Y : Set) (s : ℕ) → s < n → X s ≡ true → Y s ≡ false → ((t : ℕ) → (t ≡ s → ⊥) → Y t ≡ X t) →
     count n Y + 1 ≡ count n X

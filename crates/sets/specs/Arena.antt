@@ -19,9 +19,10 @@ arena-game a =
     record {
       moves = λ s e. ltb s (a .states) && (ltb e (a .moves) && bit (getD (now (a .legal)) s 0) e);
       allowed = λ s e k.
-        ltb s (a .states) && (ltb e (a .moves) && (ltb k (a .answers) && bit (getD (now (a .allowed)) (s * a .moves + e) 0) k));
+          ltb s (a .states) && (ltb e (a .moves) && (ltb k (a .answers) && bit (getD (now (a .allowed)) (s * a .moves + e) 0) k));
       after = λ s e k. getD (now (a .next)) ((s * a .moves + e) * a .answers + k) 0;
       promises = a .«promise_count»;
       promise = λ i s. bit (getD (now (a .promises)) s 0) i;
       goals = a .«goal_count»;
-      goal = λ j s. bit (getD (now (a .goals)) s 0) j }
+      goal = λ j s. bit (getD (now (a .goals)) s 0) j;
+    }

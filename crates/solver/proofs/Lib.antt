@@ -1,0 +1,15 @@
+pub mod Sweeps
+pub mod Stays
+pub mod Shrinks
+pub mod Ranks
+pub mod Rounds
+pub mod Enters
+pub mod Rows
+pub mod Attains
+pub mod Layers
+pub mod Drops
+pub mod Passes
+pub mod Answering
+pub mod Moving
+pub mod Solving
+pub mod Calls
