@@ -53,9 +53,9 @@ same-kept g h a i s e m =
     ⊎-elim
     (λ l. ap (λ b. ltb i (g .promises) && b) (a .promise i s e l m) ∙ ap (λ n. ltb i n && h .promise i s) (a .promises))
     (λ l.
-       let none : ltb i (g .promises) ≡ false = le-ltb i (g .promises) l in
-       let none′ : ltb i (h .promises) ≡ false = ap (ltb i) (sym (a .promises)) ∙ none in
-       ap (λ b. b && g .promise i s) none ∙ sym (ap (λ b. b && h .promise i s) none′))
+    let none : ltb i (g .promises) ≡ false = le-ltb i (g .promises) l in
+    let none′ : ltb i (h .promises) ≡ false = ap (ltb i) (sym (a .promises)) ∙ none in
+    ap (λ b. b && g .promise i s) none ∙ sym (ap (λ b. b && h .promise i s) none′))
     (cases-lt i (g .promises))
 
 same-onward : (g h : Game) (c : Counterstrategy) → Agree g h → (i s e t : ℕ) → g .moves s e ≡ true → Onward g c i s t → Onward h c i s t
@@ -98,13 +98,14 @@ won g h k s a w es zero legal =
 won g h k s a w es (suc n) legal =
     let before = won g h k s a w es n (λ m l. legal m (omega arith)) in
     let same : state-at g k es s (suc n) ≡ state-at h k es s (suc n) =
-    a .after _ _ _ (before .1 n (omega arith)) (w .answers es n (before .1)) ∙ ap (λ t. h .after t (es n) (k (es n ∷ past es n))) (before .0) in
-    (same,
-     λ m l. ⊎-elim
-         (λ (last : m ≡ suc n). subst (λ m. g .moves (state-at g k es s m) (es m) ≡ true) (sym last)
-            (ap (λ t. g .moves t (es (suc n))) same ∙ (a .moves _ _ ∙ legal (suc n) (omega arith))))
-         (λ other. before .1 m (omega arith))
-         (cases-eq m (suc n)))
+    a .after _ _ _ (before .1 n (omega arith)) (w .answers es n (before .1)) ∙ ap (λ t. h .after t (es n) (k (es n ∷ past es n))) (before .0) in (
+      same,
+      λ m l. ⊎-elim
+          (λ (last : m ≡ suc n). subst (λ m. g .moves (state-at g k es s m) (es m) ≡ true) (sym last)
+          (ap (λ t. g .moves t (es (suc n))) same ∙ (a .moves _ _ ∙ legal (suc n) (omega arith))))
+          (λ other. before .1 m (omega arith))
+          (cases-eq m (suc n)),
+    )
 
 pub winning-agrees : Winning-agrees
 winning-agrees g h k s a w =
@@ -140,12 +141,13 @@ lost g h k s a b (suc n) fine =
     let before = lost g h k s a b n (λ m l. fine m (omega arith)) in
     let legal = b .legal n (before .1) in
     let now : g .allowed (state-at g k es s n) (es n) (k (es n ∷ past es n)) ≡ true =
-    a .allowed _ _ _ legal ∙ (ap (λ t. h .allowed t (es n) (k (es n ∷ past es n))) (before .0) ∙ fine n (omega arith)) in
-    (a .after _ _ _ legal now ∙ ap (λ t. h .after t (es n) (k (es n ∷ past es n))) (before .0),
-     λ m l. ⊎-elim
-         (λ (last : m ≡ n). subst (λ m. g .allowed (state-at g k es s m) (es m) (k (es m ∷ past es m)) ≡ true) (sym last) now)
-         (λ other. before .1 m (omega arith))
-         (cases-eq m n))
+    a .allowed _ _ _ legal ∙ (ap (λ t. h .allowed t (es n) (k (es n ∷ past es n))) (before .0) ∙ fine n (omega arith)) in (
+      a .after _ _ _ legal now ∙ ap (λ t. h .after t (es n) (k (es n ∷ past es n))) (before .0),
+      λ m l. ⊎-elim
+          (λ (last : m ≡ n). subst (λ m. g .allowed (state-at g k es s m) (es m) (k (es m ∷ past es m)) ≡ true) (sym last) now)
+          (λ other. before .1 m (omega arith))
+          (cases-eq m n),
+    )
 
 pub beaten-agrees : Beaten-agrees
 beaten-agrees g h k s a b =
@@ -157,13 +159,21 @@ beaten-agrees g h k s a b =
       keeps = λ fine i l n.
           let play = λ (n : ℕ). lost g h k s a b n (fine n) in
           let l′ : i < g .promises = subst (λ m. i < m) (sym (a .promises)) l in
-          let v = b .keeps (λ n. play n .1) i l′ n in
-          (v .0, v .1,
-           ap (h .promise i) (sym (play (v .0) .0)) ∙ (sym (a .promise i _ (b .row (v .0)) l′ (b .legal (v .0) (play (v .0) .1))) ∙ v .2));
+          let v = b .keeps (λ n. play n .1) i l′ n in (
+            v .0,
+            v .1,
+            ap (h .promise i) (sym (play (v .0) .0)) ∙ (sym (a .promise i _ (b .row (v .0)) l′ (b .legal (v .0) (play (v .0) .1))) ∙ v .2),
+          );
       misses = λ fine none.
           let play = λ (n : ℕ). lost g h k s a b n (fine n) in
           b .misses (λ n. play n .1) (λ found.
           let j = found .0 in
-          none (j, subst (λ m. j < m) (a .goals) (found .1), (found .2 .0,
-          λ m l. ap (h .goal j) (sym (play m .0)) ∙ (sym (a .goal j _ (b .row m) (found .1) (b .legal m (play m .1))) ∙ found .2 .1 m l))));
+          none (
+            j,
+            subst (λ m. j < m) (a .goals) (found .1),
+            (
+              found .2 .0,
+              λ m l. ap (h .goal j) (sym (play m .0)) ∙ (sym (a .goal j _ (b .row m) (found .1) (b .legal m (play m .1))) ∙ found .2 .1 m l),
+            ),
+          ));
     }

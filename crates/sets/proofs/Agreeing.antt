@@ -102,17 +102,17 @@ pub next-within : (c : Content) (legal allowed next promises goals : List ℕ) �
 next-within c legal allowed next promises goals valid size T k =
     ⊎-elim
     (λ inside.
-       let M = move-count c in
-       let A = answer-count c in
-       let row : k / A < state-count c * M = div-below k A (state-count c * M) (pow-pos (c .answer)) (omega (arith, size)) in
-       let s : k / A / M < state-count c = div-below (k / A) M (state-count c) (pow-pos (c .moves)) row in
-       let e : k / A % M < M = mod-below (k / A) M (pow-pos (c .moves)) in
-       let a : k % A < A = mod-below k A (pow-pos (c .answer)) in
-       let place : (k / A / M * M + k / A % M) * A + k % A ≡ k = ap (λ r. r * A + k % A) (div-add-mod' (k / A) M) ∙ div-add-mod' k A in
-       let small : number (c .next) (k / A / M) (k / A % M) (k % A) < state-count c =
-       subst (λ n. number (c .next) (k / A / M) (k / A % M) (k % A) < 2 ^ n) (valid .each-bit) (number-below (c .next) (k / A / M) (k / A % M) (k % A)) in
-       subst (λ p. getD next p 0 < state-count c) place
-       (subst (λ n. n < state-count c) (sym (T .after-in (k / A / M) (k / A % M) (k % A) s e a)) (pick-below _ _ _ small)))
+    let M = move-count c in
+    let A = answer-count c in
+    let row : k / A < state-count c * M = div-below k A (state-count c * M) (pow-pos (c .answer)) (omega (arith, size)) in
+    let s : k / A / M < state-count c = div-below (k / A) M (state-count c) (pow-pos (c .moves)) row in
+    let e : k / A % M < M = mod-below (k / A) M (pow-pos (c .moves)) in
+    let a : k % A < A = mod-below k A (pow-pos (c .answer)) in
+    let place : (k / A / M * M + k / A % M) * A + k % A ≡ k = ap (λ r. r * A + k % A) (div-add-mod' (k / A) M) ∙ div-add-mod' k A in
+    let small : number (c .next) (k / A / M) (k / A % M) (k % A) < state-count c =
+    subst (λ n. number (c .next) (k / A / M) (k / A % M) (k % A) < 2 ^ n) (valid .each-bit) (number-below (c .next) (k / A / M) (k / A % M) (k % A)) in
+    subst (λ p. getD next p 0 < state-count c) place
+    (subst (λ n. n < state-count c) (sym (T .after-in (k / A / M) (k / A % M) (k % A) s e a)) (pick-below _ _ _ small)))
     (λ past. rw (getD-past next k 0 past) (pow-pos (c .state)))
     (cases-lt k (length next))
 

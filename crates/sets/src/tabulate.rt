@@ -58,7 +58,13 @@ fn states_after(rules: &Rules<'_>, step: Answers, allowed: u64, row: &mut [u16])
     }
     let mut packed = [0; WORDS];
     let next = rules.steps.next;
-    spell(next.bytes, next.count.min(STATE_BITS), step, allowed, &mut packed);
+    spell(
+        next.bytes,
+        next.count.min(STATE_BITS),
+        step,
+        allowed,
+        &mut packed,
+    );
     for a in 0..row.len() {
         row[a] = field_of(packed[a / 4], a % 4);
     }

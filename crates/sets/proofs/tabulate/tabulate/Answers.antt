@@ -22,21 +22,46 @@ ghost-result c =
     (c .pre .sound) (c .pre .room)
     (c .tabulate-legal .kept .legal) (c .tabulate-allowed .kept .allowed) (c .tabulate-next .kept .next) (c .tabulate-states .kept .table) (c .tabulate-states-2 .kept .table)
     (c .tabulate-legal .ensures) (c .tabulate-allowed .ensures) (c .tabulate-next .ensures) (c .tabulate-states .ensures) (c .tabulate-states-2 .ensures) in
-    let z = t .0 in
-    (subst (λ n. 0 < n) (sym (c .states .ensures)) (pow-pos (min (r .widths .state) 12)),
-    (omega (arith, c .states .ensures, most-states (r .widths .state)),
-    (omega (arith, c .moves .ensures, most-moves (r .widths .moves)),
-    (omega (arith, c .answers .ensures, most-moves (r .widths .answer)),
-    (omega (arith, v .few-promises, promises),
-    (omega (arith, v .some-goal, goals),
-    (omega (arith, v .few-goals, goals),
-    (z .legal-size ∙ sym (c .states .ensures),
-    (computed-moves _ _ _ _ _ (z .allowed-size) (c .states .ensures) (c .moves .ensures),
-    (computed-answers _ _ _ _ _ _ _ (z .next-size) (c .states .ensures) (c .moves .ensures) (c .answers .ensures),
-    (z .promises-size ∙ sym (c .states .ensures),
-    (z .goals-size ∙ sym (c .states .ensures),
-    (λ k. subst (λ n. getD (c .tabulate-next .last .next) k 0 < n) (sym (c .states .ensures)) (next-within (content r) _ _ _ _ _ v (z .next-size) (t .1) k),
-    tt)))))))))))))
+    let z = t .0 in (
+      subst (λ n. 0 < n) (sym (c .states .ensures)) (pow-pos (min (r .widths .state) 12)),
+      (
+        omega (arith, c .states .ensures, most-states (r .widths .state)),
+        (
+          omega (arith, c .moves .ensures, most-moves (r .widths .moves)),
+          (
+            omega (arith, c .answers .ensures, most-moves (r .widths .answer)),
+            (
+              omega (arith, v .few-promises, promises),
+              (
+                omega (arith, v .some-goal, goals),
+                (
+                  omega (arith, v .few-goals, goals),
+                  (
+                    z .legal-size ∙ sym (c .states .ensures),
+                    (
+                      computed-moves _ _ _ _ _ (z .allowed-size) (c .states .ensures) (c .moves .ensures),
+                      (
+                        computed-answers _ _ _ _ _ _ _ (z .next-size) (c .states .ensures) (c .moves .ensures) (c .answers .ensures),
+                        (
+                          z .promises-size ∙ sym (c .states .ensures),
+                          (
+                            z .goals-size ∙ sym (c .states .ensures),
+                            (
+                              λ k. subst (λ n. getD (c .tabulate-next .last .next) k 0 < n) (sym (c .states .ensures)) (next-within (content r) _ _ _ _ _ v (z .next-size) (t .1) k),
+                              tt,
+                            ),
+                          ),
+                        ),
+                      ),
+                    ),
+                  ),
+                ),
+              ),
+            ),
+          ),
+        ),
+      ),
+    )
 
 pub returns : need.returns
 returns c =

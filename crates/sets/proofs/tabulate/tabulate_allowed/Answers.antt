@@ -34,8 +34,9 @@ loop-k-again c =
     entry-more (λ k x. Spread x (allowed-at g m (c .args .legal .now) k)) (c .loop-k .allowed) k (c .if-legal-k-eq1 .allowed)
     (omega arith) (c .loop-k .inv)
     (elim (c .if-legal-k-eq1 .came) [
-       then-legal-k-eq1 w ↦ given-legal _ word (k % m) (g .allowed (k / m) (k % m)) (w .if-legal-k-eq1 .taken) (subst (λ x. Spread x (g .allowed (k / m) (k % m))) (sym (w .allowed-is)) (w .allowed-answers .ensures))
-     | else-legal-k-eq1 w ↦ not-legal _ word (k % m) (g .allowed (k / m) (k % m)) (w .if-legal-k-eq1 .left) (w .allowed-is) ])
+      | then-legal-k-eq1 w ↦ given-legal _ word (k % m) (g .allowed (k / m) (k % m)) (w .if-legal-k-eq1 .taken) (subst (λ x. Spread x (g .allowed (k / m) (k % m))) (sym (w .allowed-is)) (w .allowed-answers .ensures))
+      | else-legal-k-eq1 w ↦ not-legal _ word (k % m) (g .allowed (k / m) (k % m)) (w .if-legal-k-eq1 .left) (w .allowed-is)
+    ])
 
 pub returns : need.returns
 returns c k h =
