@@ -11,13 +11,13 @@ use game::rules::Rules;
 
 // The moves in one state. The move rule has no bits of an answer, so the answer is 0.
 #[derive(Clone, Copy)]
-pub struct Moves {
+pub(crate) struct Moves {
     pub state: u16,
 }
 
 // The answers to one move in one state.
 #[derive(Clone, Copy)]
-pub struct Answers {
+pub(crate) struct Answers {
     pub state: u16,
     pub moved: u8,
 }
@@ -81,7 +81,7 @@ fn first_lanes(bits: u8) -> u64
 }
 
 // The moves that the environment may make in the state, one bit each.
-pub fn legal_moves(rules: &Rules<'_>, state: u16) -> u64
+pub(crate) fn legal_moves(rules: &Rules<'_>, state: u16) -> u64
     ensures { λ r. ⌜ Spread r (game-of (content (now (rules .entry))) .moves state) ⌝ }
 {
     if (state as u32) < rules.widths.states() {
@@ -92,7 +92,7 @@ pub fn legal_moves(rules: &Rules<'_>, state: u16) -> u64
 }
 
 // The answers that are allowed to the move in the state, one bit each.
-pub fn allowed_answers(rules: &Rules<'_>, step: Answers) -> u64
+pub(crate) fn allowed_answers(rules: &Rules<'_>, step: Answers) -> u64
     ensures { λ r. ⌜ Spread r (game-of (content (now (rules .entry))) .allowed (step .state) (step .moved)) ⌝ }
 {
     if (step.state as u32) < rules.widths.states() && (step.moved as u32) < rules.widths.moves() {

@@ -20,7 +20,7 @@ use game::section::spelt;
 use game::widths::STATE_BITS;
 
 // The legal moves of each state.
-pub fn tabulate_legal(rules: &Rules<'_>, legal: &mut [u64])
+fn tabulate_legal(rules: &Rules<'_>, legal: &mut [u64])
     requires { ⌜ length (now legal) ≤ 65536 ⌝ }
     ensures { λ _. ⌜ Legal-table (game-of (content (now (rules .entry)))) (now (legal .exit)) ⌝ }
 {
@@ -30,7 +30,7 @@ pub fn tabulate_legal(rules: &Rules<'_>, legal: &mut [u64])
 }
 
 // The allowed answers to each legal move; none to one that is not legal, so that it costs no evaluation.
-pub fn tabulate_allowed(rules: &Rules<'_>, legal: &[u64], allowed: &mut [u64])
+fn tabulate_allowed(rules: &Rules<'_>, legal: &[u64], allowed: &mut [u64])
     requires size { ⌜ length (now allowed) ≡ state-count (content (now rules)) * move-count (content (now rules)) ⌝ }
     requires known { ⌜ length (now legal) ≡ state-count (content (now rules)) ⌝ }
     ensures { λ _. ⌜ Allowed-table (game-of (content (now (rules .entry)))) (move-count (content (now (rules .entry)))) (now (legal .entry)) (now (allowed .exit)) ⌝ }
@@ -71,7 +71,7 @@ fn states_after(rules: &Rules<'_>, step: Answers, allowed: u64, row: &mut [u16])
 }
 
 // The state after each allowed answer to each legal move.
-pub fn tabulate_next(rules: &Rules<'_>, allowed: &[u64], next: &mut [u16])
+fn tabulate_next(rules: &Rules<'_>, allowed: &[u64], next: &mut [u16])
     requires size { ⌜ length (now allowed) ≡ state-count (content (now rules)) * move-count (content (now rules)) ⌝ }
     requires room { ⌜ length (now next) ≡ length (now allowed) * answer-count (content (now rules)) ⌝ }
     ensures { λ _. ⌜ Next-table (game-of (content (now (rules .entry)))) (move-count (content (now (rules .entry)))) (answer-count (content (now (rules .entry)))) (now (allowed .entry)) (now (next .exit)) ⌝ }
@@ -96,7 +96,7 @@ fn holding(section: Section<'_>, state: u16) -> u8
 }
 
 // The formulas of a row that hold in each state.
-pub fn tabulate_states(section: Section<'_>, table: &mut [u8])
+fn tabulate_states(section: Section<'_>, table: &mut [u8])
     requires { ⌜ length (now table) ≤ 65536 ⌝ }
     ensures { λ _. ⌜ State-table (holds-of (formulas-of (section .entry .count) (now (section .entry .bytes)))) (now (table .exit)) ⌝ }
 {
