@@ -105,7 +105,7 @@ mod tests {
 
     #[test]
     fn table_ranges() -> Result<(), Fail> {
-        check_eq(lift(12, 2), (8, 2)).note("known is neither 0 nor 1")?;
+        check_eq(lift(0, 2), (8, 0)).note("known is neither 0 nor 1")?;
         check_eq(lift(13, 2), (8, 2)).note("an answer has a bit too many")?;
         check_eq(lift(17, 1), (8, 2)).note("a promise that there is not")?;
         check_eq(lift(17, 9), (8, 2)).note("past the number for none")
@@ -143,7 +143,7 @@ mod tests {
 
     #[test]
     fn way_ranges() -> Result<(), Fail> {
-        check_eq(stuck(7, 3), (9, 1)).note("known is neither 0 nor 1")?;
+        check_eq(stuck(21, 3), (9, 3)).note("known is neither 0 nor 1")?;
         check_eq(stuck(17, 1), (9, 2)).note("a goal that there is not")?;
         check_eq(stuck(11, 3), (9, 1)).note("a move with a bit too many")
     }
