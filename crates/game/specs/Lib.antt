@@ -3,3 +3,12 @@ pub mod Plan
 pub mod Counterstrategy
 pub mod Play
 pub mod Theorems
+pub mod Refusals
+pub mod Content
+pub mod Reading
+pub mod Meaning
+pub mod Parts
+pub mod Finite
+pub mod Samples
+pub mod Laws
+pub mod Agree

@@ -1,6 +1,7 @@
 -- Plays, controllers with any memory, and what winning is. Assumes nothing. What it is to win says no word about
 -- tables; `follow` and `lead`, at the end, are the two ways to play that a table and a counterstrategy give.
 --   Again, Finitely  at infinitely many times; at finitely many times only
+--   NotNot           it can't be that it is not so
 --   Controller       any function from the moves so far to an answer
 --   past, state-at   the moves before a time; the state at a time
 --   Legal, Answered  the environment's moves up to a time are ones that it may make; the answers before a time are allowed
@@ -8,7 +9,7 @@
 --   Winning          a controller wins from a state
 --   Nearly-winning   the same with its visits to goals twice negated
 --   Beaten           the environment beats a controller from a state
---   Now, now         where a play under a plan is: the goal gone for and the state
+--   Now, now-after   where a play under a plan is: the goal gone for and the state
 --   follow           the controller that follows a plan
 --   Led, led, lead   a play under a counterstrategy against a controller, and the environment's moves in it
 use mathlib.Core.Path.{_≡_}

@@ -1,6 +1,10 @@
 // Games, plays and winning: what the rules of a game mean, and the theorems that everything above rests on.
-ghost use Rattle.game.specs.Theorems.{Plan-wins};
-
-pub fn placeholder(a: u8) -> u8 {
-    a
-}
+pub mod agree;
+mod reader;
+pub mod refusal;
+pub mod rules;
+pub mod section;
+mod steps;
+pub mod theorems;
+pub mod widths;
+mod writer;
