@@ -4,11 +4,12 @@
 use mathlib.Core.Path.{_≡_, refl, sym, ap, subst, _∙_}
 use mathlib.Core.Bool.{Bool, true, false, not, _&&_}
 use mathlib.Core.List.{List}
+use mathlib.Core.Logic.{_⊎_, inl, inr, ⊎-elim}
 use Prim.Native.Nat.{ℕ, _+_, _*_, _<_, _≤_}
 use native.Mathlib.Omega.{arith}
 use lib.Dec.{ltb}
-use borrow.Author.Tests.{lt-ltb, ltb-true, not-true}
-use Rattle.std.proofs.shelf.Tests.{and-from, and-parts, not-from-false}
+use borrow.Author.Tests.{both-ways, lt-ltb, ltb-true, not-true}
+use Rattle.std.proofs.shelf.Tests.{and-from, and-parts, cases-bool, not-from-false}
 use Rattle.game.specs.Game.{Game}
 use Rattle.game.specs.Plan.{PlanHolds}
 use Rattle.game.specs.Counterstrategy.{CounterHolds, turns}
@@ -82,6 +83,9 @@ module _ (g : Game) (n m : ℕ) (bound : (s e a : ℕ) → g .after s e a < n) (
         record {
           wins = plan-holds;
           loses = counter-holds;
+          covers = λ s l.
+            ⊎-elim (λ z. inl z) (λ z. inr (and-from (ltb s n) (not (member known s)) (lt-ltb s n l) (not-from-false (member known s) z))) (cases-bool (member known s));
+          apart = λ s z k. both-ways (member known s) (lost s k .1) z;
           region = so .region;
           unused = record {
             answer = λ j s e lj l le z. an j s e lj l le .outside z;

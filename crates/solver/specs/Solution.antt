@@ -2,6 +2,7 @@
 --   table, way   the table with reasons and the counterstrategy that lent slices hold
 --   Unused       what a row does not use is 0
 --   Solution     table and counterstrategy hold together, and the table knows the winning region
+use mathlib.Core.Logic.{_⊎_}
 use mathlib.Core.Path.{_≡_}
 use mathlib.Core.Bool.{true, false}
 use mathlib.Core.List.{List}
@@ -34,10 +35,12 @@ pub record Unused (g : Game) (n m : ℕ) (known answers ranks waits layers avoid
   pub layer : (s : ℕ) → s < n → member known s ≡ true → (cell layers s ≡ 0) × (cell avoids s ≡ 0)
   pub move : (i s : ℕ) → i < turns (g .promises) → s < n → member known s ≡ true → (row moves n i s ≡ 0) × (row turned n i s ≡ 0)
 
--- The table holds together, and so does the counterstrategy; what the table knows is the winning region, the greatest
--- set of the outer step. So each state is known by one of them, and by one only.
+-- The table holds together, and so does the counterstrategy; each state is known for goal 0 by the one or known by the
+-- other, and never by both. What the table knows is the winning region, the greatest set of the outer step.
 pub record Solution (g : Game) (n m : ℕ) (known answers ranks waits layers avoids moves turned : List ℕ) : Type 0 where
   pub wins : PlanHolds g (table n m known answers ranks waits)
   pub loses : CounterHolds g (way n known layers avoids moves turned)
+  pub covers : (s : ℕ) → s < n → (table n m known answers ranks waits .known 0 s ≡ true) ⊎ (way n known layers avoids moves turned .known s ≡ true)
+  pub apart : (s : ℕ) → table n m known answers ranks waits .known 0 s ≡ true → way n known layers avoids moves turned .known s ≡ true → ⊥
   pub region : Greatest (Outer g n) (member known)
   pub unused : Unused g n m known answers ranks waits layers avoids moves turned
