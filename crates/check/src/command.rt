@@ -8,7 +8,11 @@ pub enum Kind {
 }
 
 pub enum Command<'a> {
-    Check { kind: Kind, rules: &'a str, file: &'a str },
+    Check {
+        kind: Kind,
+        rules: &'a str,
+        file: &'a str,
+    },
     Help,
     Unclear,
 }
@@ -27,6 +31,10 @@ impl<'a> Command<'a> {
             "way" => Kind::Way,
             _ => return Command::Unclear,
         };
-        Command::Check { kind, rules: words[1].as_str(), file: words[2].as_str() }
+        Command::Check {
+            kind,
+            rules: words[1].as_str(),
+            file: words[2].as_str(),
+        }
     }
 }

@@ -1,79 +1,49 @@
 // The program `check`: whether a table, or a counterstrategy, holds together for the rules of a game and knows every start.
 mod command;
 mod judged;
+
 use command::Command;
 use command::Kind;
+use game::rules::MOST_FILE;
 use judged::judge;
-use std::env;
 use std::error::AnyError;
-use std::fs;
 
-const HELP: &str = "check table RULES FILE    accept or refuse a table for the rules
+const USAGE: &str = "check table RULES FILE, or check way RULES FILE";
+
+const HELP: &str = "check table RULES FILE    accepts or refuses the table FILE for the rules
 check way RULES FILE      the same for a counterstrategy
-It prints 'accepted, known N', or 'refused N at P' and ends with status 1.";
+It prints 'accepted, known N' with the number of states that are known, or 'refused N at P' and ends with status 1:
+  1 to 6  the rules, as solve --help says; 1 also the bytes of FILE end too early (P: their length) or go on (P: the first too many)
+  8       the table does not hold together: the first state with a faulty row
+  9       the counterstrategy does not hold together: the first state with a faulty row
+  10      a start that it does not know: its number, from 0 on";
 
-const USAGE: &str = "write: check table RULES FILE, or: check way RULES FILE";
+// The most bytes of a table: a row of 4 bytes and an answer to each of 64 moves, for each of 4096 states and 8 goals. A
+// counterstrategy has fewer.
+const MOST_REASONS: u64 = 8 * 4096 * (4 + 64);
 
-// What a run came to, beside an error.
-enum Ending {
-    Done,
-    Refused,
-}
-
-// The program ends with status 1.
-#[derive(Debug, Drop)]
-struct Failed;
-
-fn main(rt: LibcRuntime) -> Result<(), Failed> {
-    match run(&rt) {
-        Ok(Ending::Done) => Ok(()),
-        Ok(Ending::Refused) => Err(Failed),
-        Err(error) => {
-            let _ = eprintln!(rt, "check: {error}");
-            Err(Failed)
-        }
-    }
-}
-
-// Does what the words of the command line ask for.
-fn run(rt: &LibcRuntime) -> Result<Ending, AnyError> {
-    let words = env::args(rt)?.skip(1).collect(rt.alloc())?;
+fn main(rt: LibcRuntime) -> Result<(), AnyError> {
+    let words = cli::words(&rt)?;
     match Command::of(&words) {
         Command::Help => {
             rt.println(HELP)?;
-            Ok(Ending::Done)
+            Ok(())
         }
-        Command::Unclear => Err(USAGE.into()),
-        Command::Check { kind, rules, file } => check(rt, kind, rules, file),
+        Command::Unclear => cli::misused(&rt, "check", USAGE),
+        Command::Check { kind, rules, file } => check(&rt, kind, rules, file),
     }
 }
 
 // Judges one file for the rules in another, and prints the verdict.
-fn check(rt: &LibcRuntime, kind: Kind, rules: &str, file: &str) -> Result<Ending, AnyError> {
-    let rules = read(rt, rules)?;
-    let file = read(rt, file)?;
+fn check(rt: &LibcRuntime, kind: Kind, rules: &str, file: &str) -> Result<(), AnyError> {
+    let rules = cli::load(rt, "check", rules, MOST_FILE)?;
+    let file = cli::load(rt, "check", file, MOST_REASONS)?;
     match judge(kind, rules.as_slice(), file.as_slice()) {
         Ok(accepted) => {
             let known = accepted.known;
             println!(rt, "accepted, known {known}")?;
-            Ok(Ending::Done)
+            Ok(())
         }
-        Err(refusal) => {
-            let number = refusal.number();
-            let place = refusal.place();
-            println!(rt, "refused {number} at {place}")?;
-            Ok(Ending::Refused)
-        }
-    }
-}
-
-// The bytes of a file; an error names it.
-fn read(rt: &LibcRuntime, path: &str) -> Result<Vec<u8>, AnyError> {
-    match fs::read(rt, path) {
-        Ok(bytes) => Ok(bytes),
-        Err(error) => {
-            let text = format!(rt.alloc(), "cannot read {path}: {error}")?;
-            Err(text.into())
-        }
+        Err(refusal) => cli::refused(rt, refusal),
     }
 }

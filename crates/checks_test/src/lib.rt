@@ -6,40 +6,115 @@ use rows::judge::Accepted;
 // A lift with floors 0 and 1 that moves only with power, which the environment promises again and again: state bit 0 is
 // the power, bit 1 the floor. The move says whether there is power next, the answer is the next floor. Goal: floor 1.
 pub const LIFT: [u8; 24] = [
-    2, 1, 1, // bits
-    1, 1, // any move
-    5, 4, 16, 5, 48, 17, // with power, or the floor stays
-    1, 32, 1, 48, // power and floor after
-    1, 1, 16, // promise: power
-    1, 1, 17, // goal: floor 1
-    1, 0, 0, // start in state 0
+    2,
+    1,
+    1, // bits
+    1,
+    1, // any move
+    5,
+    4,
+    16,
+    5,
+    48,
+    17, // with power, or the floor stays
+    1,
+    32,
+    1,
+    48, // power and floor after
+    1,
+    1,
+    16, // promise: power
+    1,
+    1,
+    17, // goal: floor 1
+    1,
+    0,
+    0, // start in state 0
 ];
 
 // State by state: known, the answers without and with power next, two bytes of rank, the promise waited for.
 pub const LIFT_TABLE: [u8; 24] = [
-    1, 0, 0, 1, 0, 0, // floor 0 without power: wait
-    1, 1, 1, 1, 0, 0, // floor 0 with power: go
-    1, 1, 1, 0, 0, 8, // floor 1: stay
-    1, 1, 1, 0, 0, 8,
+    1,
+    0,
+    0,
+    1,
+    0,
+    0, // floor 0 without power: wait
+    1,
+    1,
+    1,
+    1,
+    0,
+    0, // floor 0 with power: go
+    1,
+    1,
+    1,
+    0,
+    0,
+    8, // floor 1: stay
+    1,
+    1,
+    1,
+    0,
+    0,
+    8,
 ];
 
 // The same lift stuck: it may only go down, and the environment gives power in every step.
 pub const STUCK: [u8; 21] = [
-    2, 1, 1, // bits
-    1, 32, // power next
-    2, 2, 48, // down
-    1, 32, 1, 48, // power and floor after
-    1, 1, 16, // promise: power
-    1, 1, 17, // goal: floor 1
-    1, 0, 0, // start in state 0
+    2,
+    1,
+    1, // bits
+    1,
+    32, // power next
+    2,
+    2,
+    48, // down
+    1,
+    32,
+    1,
+    48, // power and floor after
+    1,
+    1,
+    16, // promise: power
+    1,
+    1,
+    17, // goal: floor 1
+    1,
+    0,
+    0, // start in state 0
 ];
 
 // State by state: known, two bytes of layer, the goal kept away from, then for the promise a move and two bytes of rank.
 pub const STUCK_WAY: [u8; 28] = [
-    1, 0, 0, 0, 1, 1, 0, // floor 0 without power
-    1, 0, 0, 0, 1, 0, 0, // floor 0 with power: the promise is kept
-    1, 1, 0, 0, 1, 1, 0, // floor 1, where the goal holds: a layer of its own
-    1, 1, 0, 0, 1, 0, 0,
+    1,
+    0,
+    0,
+    0,
+    1,
+    1,
+    0, // floor 0 without power
+    1,
+    0,
+    0,
+    0,
+    1,
+    0,
+    0, // floor 0 with power: the promise is kept
+    1,
+    1,
+    0,
+    0,
+    1,
+    1,
+    0, // floor 1, where the goal holds: a layer of its own
+    1,
+    1,
+    0,
+    0,
+    1,
+    0,
+    0,
 ];
 
 // A switch without promises whose goal never holds: one state bit, which the answer sets.
@@ -164,8 +239,14 @@ mod tests {
 
     #[test]
     fn ways_without_promises() -> Result<(), Fail> {
-        check_eq(way(&OFF, &[1, 0, 0, 0, 0, 5, 0, 1, 0, 0, 0, 0, 5, 0]), (0, 2))?;
-        check_eq(way(&OFF, &[1, 0, 0, 0, 0, 5, 0, 1, 0, 0, 0, 0, 4, 0]), (9, 0)).note("the rank changes")?;
+        check_eq(
+            way(&OFF, &[1, 0, 0, 0, 0, 5, 0, 1, 0, 0, 0, 0, 5, 0]),
+            (0, 2),
+        )?;
+        check_eq(
+            way(&OFF, &[1, 0, 0, 0, 0, 5, 0, 1, 0, 0, 0, 0, 4, 0]),
+            (9, 0),
+        ).note("the rank changes")?;
         check_eq(way(&OFF[0..15], &[]), (1, 15)).note("the rules are refused first")
     }
 }

@@ -84,7 +84,7 @@ module _ (g : Game) (n m : ℕ) (bound : (s e a : ℕ) → g .after s e a < n) (
           wins = plan-holds;
           loses = counter-holds;
           covers = λ s l.
-            ⊎-elim (λ z. inl z) (λ z. inr (and-from (ltb s n) (not (member known s)) (lt-ltb s n l) (not-from-false (member known s) z))) (cases-bool (member known s));
+              ⊎-elim (λ z. inl z) (λ z. inr (and-from (ltb s n) (not (member known s)) (lt-ltb s n l) (not-from-false (member known s) z))) (cases-bool (member known s));
           apart = λ s z k. both-ways (member known s) (lost s k .1) z;
           region = so .region;
           unused = record {
