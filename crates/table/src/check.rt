@@ -97,7 +97,14 @@ impl Check<'_> {
         let rank = self.table.rank(goal, state);
         let waits = self.table.waits(goal, state);
         let waiting = self.lacking(waits, state);
-        Here { goal, reached, then, rank, waits, waiting }
+        Here {
+            goal,
+            reached,
+            then,
+            rank,
+            waits,
+            waiting,
+        }
     }
 
     // Whether a step from here to the state after leads on: it is known for the goal gone for then, and the goal holds
@@ -111,7 +118,9 @@ impl Check<'_> {
         let rank = self.table.rank(here.goal, after);
         here.reached
             || rank < here.rank
-            || (rank == here.rank && self.table.waits(here.goal, after) == here.waits && here.waiting)
+            || (rank == here.rank
+                && self.table.waits(here.goal, after) == here.waits
+                && here.waiting)
     }
 
     // Lane e says whether the environment may make the move e in the state.
@@ -121,7 +130,12 @@ impl Check<'_> {
         if state as u32 >= self.rules.widths.states() {
             return 0;
         }
-        self.rules.steps.moves.values(&Moves { state, row: Row { bytes: &[] } })
+        self.rules.steps.moves.values(
+            &Moves {
+                state,
+                row: Row { bytes: &[] },
+            },
+        )
     }
 
     // The steps from the row of a goal and a state.
@@ -198,6 +212,8 @@ pub impl Reasons for Check<'_> as CheckReasons {
     }
 
     fn fault(&self, state: u16) -> Refusal {
-        Refusal::TableFault { state: state as usize }
+        Refusal::TableFault {
+            state: state as usize,
+        }
     }
 }
