@@ -13,6 +13,7 @@ use Rattle.std.proofs.shelf.Tests.{and-from, and-parts, cases-bool, not-from-fa
 use Rattle.game.specs.Game.{Game}
 use Rattle.game.specs.Plan.{PlanHolds}
 use Rattle.game.specs.Counterstrategy.{CounterHolds, turns}
+use Rattle.game.proofs.Loses.{exactly}
 use Rattle.sets.specs.Member.{member, room}
 use Rattle.sets.specs.Step.{Cpre, Forced}
 use Rattle.sets.proofs.Members.{member-below}
@@ -78,13 +79,17 @@ module _ (g : Game) (n m : ℕ) (bound : (s e a : ℕ) → g .after s e a < n) (
           descends = λ i s a li k h. let p = lost s k in chosen i s li (p .0) (p .1) .1 a h .1;
         }
 
-    pub solution : Solution g n m known answers ranks waits layers avoids moves turned
-    solution =
+    covers : (s : ℕ) → s < n → (member known s ≡ true) ⊎ ((ltb s n && not (member known s)) ≡ true)
+    covers s l =
+        ⊎-elim (λ z. inl z) (λ z. inr (and-from (ltb s n) (not (member known s)) (lt-ltb s n l) (not-from-false (member known s) z))) (cases-bool (member known s))
+
+    pub solution : 0 < g .goals → Solution g n m known answers ranks waits layers avoids moves turned
+    solution some-goal =
         record {
           wins = plan-holds;
           loses = counter-holds;
-          covers = λ s l.
-              ⊎-elim (λ z. inl z) (λ z. inr (and-from (ltb s n) (not (member known s)) (lt-ltb s n l) (not-from-false (member known s) z))) (cases-bool (member known s));
+          covers = covers;
+          exactly = λ s l. exactly g (table n m known answers ranks waits) (way n known layers avoids moves turned) s some-goal plan-holds counter-holds (covers s l);
           apart = λ s z k. both-ways (member known s) (lost s k .1) z;
           region = so .region;
           unused = record {

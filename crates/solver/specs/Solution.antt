@@ -9,6 +9,7 @@ use mathlib.Core.List.{List}
 use Prim.Native.Nat.{ℕ, _+_, _*_, _<_}
 use Rattle.game.specs.Game.{Game}
 use Rattle.game.specs.Plan.{Plan, PlanHolds}
+use Rattle.game.specs.Play.{Controller, Winning}
 use Rattle.game.specs.Counterstrategy.{Counterstrategy, CounterHolds, turns}
 use Rattle.sets.specs.Member.{member}
 use Rattle.solver.specs.Fixpoint.{Greatest}
@@ -36,11 +37,15 @@ pub record Unused (g : Game) (n m : ℕ) (known answers ranks waits layers avoid
   pub move : (i s : ℕ) → i < turns (g .promises) → s < n → member known s ≡ true → (row moves n i s ≡ 0) × (row turned n i s ≡ 0)
 
 -- The table holds together, and so does the counterstrategy; each state is known for goal 0 by the one or known by the
--- other, and never by both. What the table knows is the winning region, the greatest set of the outer step.
+-- other, and never by both. So what the table knows are exactly the states from which some controller wins; they are the
+-- winning region, the greatest set of the outer step.
 pub record Solution (g : Game) (n m : ℕ) (known answers ranks waits layers avoids moves turned : List ℕ) : Type 0 where
   pub wins : PlanHolds g (table n m known answers ranks waits)
   pub loses : CounterHolds g (way n known layers avoids moves turned)
   pub covers : (s : ℕ) → s < n → (table n m known answers ranks waits .known 0 s ≡ true) ⊎ (way n known layers avoids moves turned .known s ≡ true)
   pub apart : (s : ℕ) → table n m known answers ranks waits .known 0 s ≡ true → way n known layers avoids moves turned .known s ≡ true → ⊥
+  pub exactly : (s : ℕ) → s < n →
+      (table n m known answers ranks waits .known 0 s ≡ true → (k : Controller) × Winning g k s)
+      × ((k : Controller) × Winning g k s → table n m known answers ranks waits .known 0 s ≡ true)
   pub region : Greatest (Outer g n) (member known)
   pub unused : Unused g n m known answers ranks waits layers avoids moves turned

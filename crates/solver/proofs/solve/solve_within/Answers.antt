@@ -22,6 +22,7 @@ returns c =
           (sym (goals-is a)) (c .answer-all .ensures))
           _ _
           (subst (λ (k : ℕ). Moved g (a .states) (member (c .settle-rounds .last .zone)) (cell (c .settle-rounds .last .layers)) (cell (c .settle-rounds .last .avoids)) (c .settle-rounds .last .turns) (turn-rows k) (c .move-all .last .turns) (c .move-all .last .moves))
-          (sym (promises-is a)) (c .move-all .ensures));
+          (sym (promises-is a)) (c .move-all .ensures))
+          (omega (arith, goals-is a, a .«some_goals»));
       rounds = c .settle-rounds .ensures .rounds;
     }
