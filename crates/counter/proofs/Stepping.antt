@@ -69,5 +69,5 @@ pub step-is : (c : Content) (w : Counterstrategy) (i s a : ℕ) (h : Here) (t : 
 step-is c w i s a h t e for m of legal l =
     ap (λ b. implies b (onward w h (lane-number (t .after) a))) (of .allowed a l legal ∙ ap (λ x. game-of c .allowed s x a) m)
     ∙ under (game-of c .allowed s (w .move i s) a) (λ q.
-    ap (onward w h) (of .after a l ∙ ap (λ x. game-of c .after s x a) m)
-    ∙ onward-is (game-of c) w i s (game-of c .after s (w .move i s) a) h for)
+      ap (onward w h) (of .after a l ∙ ap (λ x. game-of c .after s x a) m)
+      ∙ onward-is (game-of c) w i s (game-of c .after s (w .move i s) a) h for)

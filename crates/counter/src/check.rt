@@ -89,16 +89,9 @@ impl Check<'_> {
         }
         let layer = self.way.layer(after);
         let rank = self.way.rank(here.promise, after);
-        let nearer = if here.promised {
-            rank < here.rank
-        } else {
-            rank == here.rank
-        };
+        let nearer = if here.promised { rank < here.rank } else { rank == here.rank };
         layer < here.layer
-            || (layer == here.layer
-                && self.way.avoid(after) == here.avoid
-                && here.away
-                && (here.kept || nearer))
+            || (layer == here.layer && self.way.avoid(after) == here.avoid && here.away && (here.kept || nearer))
     }
 
     // The steps from a state by a move.
@@ -173,8 +166,6 @@ pub impl Reasons for Check<'_> as CheckReasons {
     }
 
     fn fault(&self, state: u16) -> Refusal {
-        Refusal::WayFault {
-            state: state as usize,
-        }
+        Refusal::WayFault { state: state as usize }
     }
 }

@@ -7,10 +7,8 @@ ghost use Rattle.game.specs.Content.{content};
 ghost use Rattle.game.specs.Counterstrategy.{turns};
 ghost use Rattle.counter.specs.Ways.{grid-for, counterstrategy-of, Reads};
 ghost use Rattle.counter.specs.Sound.{way-verdict, Accepts, Beats};
-
 mod answers;
 mod check;
-
 use check::Check;
 use check::CheckReasons;
 use game::refusal::Refusal;
@@ -30,11 +28,7 @@ pub struct Way<'a> {
 pub(crate) fn turn_count(rules: &Rules) -> u8
     ensures { λ r. ⌜ r ≡ turns (now (rules .entry) .promises .count) ⌝ }
 {
-    if rules.promises.count == 0 {
-        1
-    } else {
-        rules.promises.count
-    }
+    if rules.promises.count == 0 { 1 } else { rules.promises.count }
 }
 
 // The grid of the rows of a counterstrategy for the rules.
@@ -82,9 +76,7 @@ impl<'a> Way<'a> {
     pub fn moved(self, promise: u8, state: u16) -> u8
         ensures { λ r. ⌜ r ≡ counterstrategy-of (self .entry .rows .grid) (now (self .entry .rows .bytes)) .move promise state ⌝ }
     {
-        self.rows
-            .row(0, state as u32)
-            .byte(4 + 3 * promise as usize)
+        self.rows.row(0, state as u32).byte(4 + 3 * promise as usize)
     }
 
     // How far that promise is.

@@ -34,10 +34,10 @@ found test (suc n) k h before here =
     ⊎-elim
     (λ l. rw (found test n k l before here) refl)
     (λ l.
-    let e : n ≡ k = omega arith in
-    let b : first-failing n test ≡ None = ap (λ m. first-failing m test) e ∙ before in
-    let t : test n ≡ false = ap test e ∙ here in
-    rw (b, t) (ap Some e))
+      let e : n ≡ k = omega arith in
+      let b : first-failing n test ≡ None = ap (λ m. first-failing m test) e ∙ before in
+      let t : test n ≡ false = ap test e ∙ here in
+      rw (b, t) (ap Some e))
     (cases-lt k n)
 
 -- where none fails, each passes; and the other way round

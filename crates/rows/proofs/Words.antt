@@ -59,11 +59,11 @@ column-more bytes b word i j d n h e c =
   where
     lane-by : d < 2 → (k : ℕ) → k < 64 - j → bit (2 * word + d) k ≡ bit (bytes (j + k)) b
     lane-by t zero h =
-        let here : j + 0 ≡ j = omega arith in
-        bit-low word d t ∙ ap (λ m. eqb m 1) (e ∙ ap (λ m. bytes m / 2 ^ b % 2) (sym here))
+      let here : j + 0 ≡ j = omega arith in
+      bit-low word d t ∙ ap (λ m. eqb m 1) (e ∙ ap (λ m. bytes m / 2 ^ b % 2) (sym here))
     lane-by t (suc k) h =
-        let there : i + k ≡ j + suc k = omega arith in
-        bit-front word d k t ∙ c .lanes k (omega arith) ∙ ap (λ m. bit (bytes m) b) there
+      let there : i + k ≡ j + suc k = omega arith in
+      bit-front word d k t ∙ c .lanes k (omega arith) ∙ ap (λ m. bit (bytes m) b) there
 
 -- such a word leaves room for one more bit
 pub column-fits : (bytes : ℕ → ℕ) (b word i : ℕ) → 0 < i → Column bytes b word i → word < 9223372036854775808
@@ -82,12 +82,12 @@ filled-more c ss es rs i words v f h e vs w =
     record {
       twelve = length-set words i v ∙ w .twelve;
       done = λ k q l t.
-          ⊎-elim
-          (λ same.
+        ⊎-elim
+        (λ same.
           ap (λ m. bit (getD (set words i v) m 0) l) same ∙ ap (λ x. bit x l) (getD-set-same words i v 0 inside) ∙ vs l t
           ∙ ap (λ g. value-of g (ss l) (es l) (rs l)) (e ∙ ap (λ m. getD (c .next) m []) (sym same)))
-          (λ other. ap (λ x. bit x l) (getD-set-other words i k v 0 other) ∙ w .done k (omega (arith, other)) l t)
-          (cases-eq k i);
+        (λ other. ap (λ x. bit x l) (getD-set-other words i k v 0 other) ∙ w .done k (omega (arith, other)) l t)
+        (cases-eq k i);
       rest = λ k q. let other : k ≡ i → ⊥ = omega arith in getD-set-other words i k v 0 other ∙ w .rest k (omega arith);
     }
 
@@ -105,7 +105,7 @@ lanes-number (f ∷ fs) [] l s e a n done rest = absurd (omega arith)
 lanes-number (f ∷ fs) (w ∷ ws) l s e a n done rest =
     let low : bit w l ≡ value-of f s e a = done 0 (omega arith) in
     let high : lane-number ws l ≡ number fs s e a =
-    lanes-number fs ws l s e a (omega arith) (λ k h. done (suc k) (omega arith)) (λ k h. rest (suc k) (omega arith)) in
+      lanes-number fs ws l s e a (omega arith) (λ k h. done (suc k) (omega arith)) (λ k h. rest (suc k) (omega arith)) in
     rw (low, high) refl
 
 pub filled-number : (c : Content) (ss es rs : ℕ → ℕ) (i : ℕ) (words : List ℕ) → length (c .next) ≤ 12 → i ≡ length (c .next) →

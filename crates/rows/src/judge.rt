@@ -40,13 +40,7 @@ pub trait Reasons {
 fn start(starts: Starts, i: u8) -> u16
     ensures { λ r. ⌜ r ≡ getD (starts-of (starts .entry .count) (now (starts .entry .bytes))) i 0 ⌝ }
 {
-    if i < starts.count {
-        Row {
-            bytes: starts.bytes,
-        }.pair(2 * i as u16)
-    } else {
-        0
-    }
+    if i < starts.count { Row { bytes: starts.bytes }.pair(2 * i as u16) } else { 0 }
 }
 
 // The first state whose rows do not hold together.
@@ -97,11 +91,7 @@ pub fn verdict<R: Reasons>(rules: &Rules, reasons: &R) -> Result<Accepted, Refus
         return Err(reasons.fault(state));
     }
     if let Some(start) = first_unknown(reasons, rules.starts) {
-        return Err(Refusal::UnknownStart {
-            start: start as usize,
-        });
+        return Err(Refusal::UnknownStart { start: start as usize });
     }
-    Ok(Accepted {
-        known: count_known(reasons, states),
-    })
+    Ok(Accepted { known: count_known(reasons, states) })
 }

@@ -32,11 +32,7 @@ impl<'a> Row<'a> {
     pub fn byte(self, at: usize) -> u8
         ensures { λ r. ⌜ r ≡ getD (now (self .entry .bytes)) at 0 ⌝ }
     {
-        if at < self.bytes.len() {
-            self.bytes[at]
-        } else {
-            0
-        }
+        if at < self.bytes.len() { self.bytes[at] } else { 0 }
     }
 
     // The number of the two bytes from a place on, the low one first.
@@ -62,9 +58,7 @@ impl<'a> Rows<'a> {
     {
         let length = grid.groups as usize * grid.each as usize * grid.size as usize;
         if bytes.len() < length {
-            return Err(Refusal::CutOff {
-                length: bytes.len(),
-            });
+            return Err(Refusal::CutOff { length: bytes.len() });
         }
         if bytes.len() > length {
             return Err(Refusal::GoesOn { at: length });

@@ -72,7 +72,7 @@ pub step-is : (c : Content) (p : Plan) (j s e : ℕ) (h : Here) (t : Steps) → 
 step-is c p j s e h t for of l =
     ap (λ b. implies b (bit (t .allowed) e && onward p h (lane-number (t .after) e))) (of .legal e l)
     ∙ under (game-of c .moves s e) (λ q.
-    ap (λ x. x && onward p h (lane-number (t .after) e)) (of .allowed e l q)
-    ∙ ap (λ n. game-of c .allowed s e (p .answer j s e) && onward p h n) (of .after e l)
-    ∙ ap (λ x. game-of c .allowed s e (p .answer j s e) && x) (onward-is (game-of c) p j s (game-of c .after s e (p .answer j s e)) h for)
-    ∙ and-assoc (game-of c .allowed s e (p .answer j s e)) _ _)
+      ap (λ x. x && onward p h (lane-number (t .after) e)) (of .allowed e l q)
+      ∙ ap (λ n. game-of c .allowed s e (p .answer j s e) && onward p h n) (of .after e l)
+      ∙ ap (λ x. game-of c .allowed s e (p .answer j s e) && x) (onward-is (game-of c) p j s (game-of c .after s e (p .answer j s e)) h for)
+      ∙ and-assoc (game-of c .allowed s e (p .answer j s e)) _ _)

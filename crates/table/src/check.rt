@@ -97,14 +97,7 @@ impl Check<'_> {
         let rank = self.table.rank(goal, state);
         let waits = self.table.waits(goal, state);
         let waiting = self.lacking(waits, state);
-        Here {
-            goal,
-            reached,
-            then,
-            rank,
-            waits,
-            waiting,
-        }
+        Here { goal, reached, then, rank, waits, waiting }
     }
 
     // Whether a step from here to the state after leads on: it is known for the goal gone for then, and the goal holds
@@ -118,9 +111,7 @@ impl Check<'_> {
         let rank = self.table.rank(here.goal, after);
         here.reached
             || rank < here.rank
-            || (rank == here.rank
-                && self.table.waits(here.goal, after) == here.waits
-                && here.waiting)
+            || (rank == here.rank && self.table.waits(here.goal, after) == here.waits && here.waiting)
     }
 
     // Lane e says whether the environment may make the move e in the state.
@@ -130,12 +121,7 @@ impl Check<'_> {
         if state as u32 >= self.rules.widths.states() {
             return 0;
         }
-        self.rules.steps.moves.values(
-            &Moves {
-                state,
-                row: Row { bytes: &[] },
-            },
-        )
+        self.rules.steps.moves.values(&Moves { state, row: Row { bytes: &[] } })
     }
 
     // The steps from the row of a goal and a state.
@@ -212,8 +198,6 @@ pub impl Reasons for Check<'_> as CheckReasons {
     }
 
     fn fault(&self, state: u16) -> Refusal {
-        Refusal::TableFault {
-            state: state as usize,
-        }
+        Refusal::TableFault { state: state as usize }
     }
 }

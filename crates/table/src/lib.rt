@@ -6,10 +6,8 @@ ghost use Rattle.std.specs.Results.{isOk};
 ghost use Rattle.game.specs.Content.{content};
 ghost use Rattle.table.specs.Plans.{Reads, sheet-of, plan-of, grid-for};
 ghost use Rattle.table.specs.Sound.{table-verdict, Accepts, Wins};
-
 mod check;
 mod moves;
-
 use check::Check;
 use check::CheckReasons;
 use game::refusal::Refusal;
@@ -46,10 +44,7 @@ impl<'a> Table<'a> {
         ensures { λ r. ⌜ Reads (content (now (rules .entry))) (now (bytes .entry)) r ⌝ }
     {
         let rows = Rows::read(bytes, grid(rules))?;
-        Ok(Table {
-            rows,
-            moves: rules.widths.moves() as u8,
-        })
+        Ok(Table { rows, moves: rules.widths.moves() as u8 })
     }
 
     // Whether the table knows what to do in the state, going for the goal.
@@ -70,18 +65,14 @@ impl<'a> Table<'a> {
     pub fn rank(self, goal: u8, state: u16) -> u16
         ensures { λ r. ⌜ r ≡ plan-of (sheet-of (self .entry)) .rank goal state ⌝ }
     {
-        self.rows
-            .row(goal, state as u32)
-            .pair(1 + self.moves as u16)
+        self.rows.row(goal, state as u32).pair(1 + self.moves as u16)
     }
 
     // The promise waited for.
     pub fn waits(self, goal: u8, state: u16) -> u8
         ensures { λ r. ⌜ r ≡ plan-of (sheet-of (self .entry)) .waits goal state ⌝ }
     {
-        self.rows
-            .row(goal, state as u32)
-            .byte(3 + self.moves as usize)
+        self.rows.row(goal, state as u32).byte(3 + self.moves as usize)
     }
 }
 
@@ -92,11 +83,5 @@ pub fn accept<'a>(rules: &Rules<'a>, bytes: &'a [u8]) -> Result<Accepted, Refusa
     ensures wins { λ r. ⌜ (isOk r ≡ true → Wins (content (now (rules .entry))) (now (bytes .entry))) ⌝ }
 {
     let table = Table::read(rules, bytes)?;
-    judge::verdict(
-        rules,
-        &Check {
-            rules: *rules,
-            table,
-        },
-    )
+    judge::verdict(rules, &Check { rules: *rules, table })
 }

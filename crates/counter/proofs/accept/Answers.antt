@@ -10,6 +10,6 @@ pub returns : need.returns
 returns c =
     let read = c .in-Continue-way .ensures tt in
     let v : c .verdict .result ≡ way-verdict (content (now (c .args .rules))) (now (c .args .bytes)) =
-    judged (content (now (c .args .rules))) (now (c .args .bytes)) _ _ (c .verdict .result) (read .0) (read .1) (read .2) (c .verdict .ensures) in
+      judged (content (now (c .args .rules))) (now (c .args .bytes)) _ _ (c .verdict .result) (read .0) (read .1) (read .2) (c .verdict .ensures) in
     let p = promised (content (now (c .args .rules))) (now (c .args .bytes)) (c .verdict .result) v in
     record { verdict = v; exactly = p .0; beats = p .1 }

@@ -15,6 +15,6 @@ pub returns : need.returns
 returns c =
     let read = c .in-Continue-table .ensures tt in
     let v : c .verdict .result ≡ table-verdict (content (now (c .args .rules))) (now (c .args .bytes)) =
-    judged (content (now (c .args .rules))) (now (c .args .bytes)) (sheet-of (c .in-Continue-table .table)) (c .verdict .result) (read .0) (read .1) (c .verdict .ensures) in
+      judged (content (now (c .args .rules))) (now (c .args .bytes)) (sheet-of (c .in-Continue-table .table)) (c .verdict .result) (read .0) (read .1) (c .verdict .ensures) in
     let p = promised (content (now (c .args .rules))) (now (c .args .bytes)) (c .verdict .result) v in
     record { verdict = v; exactly = p .0; wins = p .1 }

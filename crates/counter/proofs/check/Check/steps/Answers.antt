@@ -14,7 +14,7 @@ returns c =
     let within = rules-within (content (c .args .self .now .rules)) in
     record {
       allowed = λ a h legal.
-          allowed-lane (content (c .args .self .now .rules)) (c .args .state) (c .args .moved) a _ (within .states _ _ legal) (within .moves _ _ legal) h
-          (c .values .ensures a (omega arith));
+        allowed-lane (content (c .args .self .now .rules)) (c .args .state) (c .args .moved) a _ (within .states _ _ legal) (within .moves _ _ legal) h
+        (c .values .ensures a (omega arith));
       after = λ a h. after-lane (content (c .args .self .now .rules)) (c .args .state) (c .args .moved) a _ (c .afters .ensures a (omega arith));
     }

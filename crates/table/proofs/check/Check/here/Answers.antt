@@ -16,10 +16,9 @@ returns c =
       goal = refl;
       reached = c .goal-holds-reached .ensures;
       later =
-          elim (c .if-reached .came) [
-            | then-reached w ↦ w .then-is ∙ w .next-goal-then .ensures ∙ sym (rw (sym (c .goal-holds-reached .ensures) ∙ w .if-reached .taken) refl)
-            | else-reached w ↦ w .then-is ∙ sym (rw (sym (c .goal-holds-reached .ensures) ∙ w .if-reached .left) refl)
-          ];
+        elim (c .if-reached .came) [
+          then-reached w ↦ w .then-is ∙ w .next-goal-then .ensures ∙ sym (rw (sym (c .goal-holds-reached .ensures) ∙ w .if-reached .taken) refl)
+        | else-reached w ↦ w .then-is ∙ sym (rw (sym (c .goal-holds-reached .ensures) ∙ w .if-reached .left) refl) ];
       rank = c .rank-rank .ensures;
       waits = c .waits-waits .ensures;
       waiting = c .lacking-waiting .ensures ∙ ap (λ i. unkept (game-of (content (c .args .self .now .rules))) i (c .args .state)) (c .waits-waits .ensures);

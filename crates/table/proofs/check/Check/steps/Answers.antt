@@ -19,9 +19,9 @@ returns c =
     record {
       legal = c .legal .ensures;
       allowed = λ e h legal.
-          allowed-lane (content (c .args .self .now .rules)) (c .args .state) e _ _ _ (rules-within (content (c .args .self .now .rules)) .states _ e legal) h
-          (ltb-true _ _ (fit e h)) (ap (λ row. getD row (1 + e) 0) (c .row-row .ensures)) (c .values .ensures e (omega arith));
+        allowed-lane (content (c .args .self .now .rules)) (c .args .state) e _ _ _ (rules-within (content (c .args .self .now .rules)) .states _ e legal) h
+        (ltb-true _ _ (fit e h)) (ap (λ row. getD row (1 + e) 0) (c .row-row .ensures)) (c .values .ensures e (omega arith));
       after = λ e h.
-          after-lane (content (c .args .self .now .rules)) (c .args .state) e _ _ _ (ap (λ row. getD row (1 + e) 0) (c .row-row .ensures))
-          (c .afters .ensures e (omega arith));
+        after-lane (content (c .args .self .now .rules)) (c .args .state) e _ _ _ (ap (λ row. getD row (1 + e) 0) (c .row-row .ensures))
+        (c .afters .ensures e (omega arith));
     }
