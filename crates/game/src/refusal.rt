@@ -18,12 +18,18 @@ pub enum Refusal {
     Count { at: usize },
     // a start state has a bit too many: its first byte
     Start { at: usize },
+    // lent memory is too short: 0 for that of the sets, 1 for the table's, 2 for the counterstrategy's
+    Lent { which: usize },
     // a table does not hold together: the first state with a faulty row
     TableFault { state: usize },
     // a counterstrategy does not hold together: the first state with a faulty row
     WayFault { state: usize },
     // a start that the table, or the counterstrategy, does not know: its number among the starts
     UnknownStart { start: usize },
+    // a move that the environment may not make in the state
+    ForbiddenMove,
+    // a state that the table does not know for the goal gone for
+    UnknownState,
 }
 
 impl Refusal {
@@ -39,9 +45,12 @@ impl Refusal {
             Refusal::Length { .. } => 4,
             Refusal::Count { .. } => 5,
             Refusal::Start { .. } => 6,
+            Refusal::Lent { .. } => 7,
             Refusal::TableFault { .. } => 8,
             Refusal::WayFault { .. } => 9,
             Refusal::UnknownStart { .. } => 10,
+            Refusal::ForbiddenMove => 11,
+            Refusal::UnknownState => 11,
         }
     }
 
@@ -59,6 +68,9 @@ impl Refusal {
             | Refusal::Start { at } => at,
             Refusal::TableFault { state } | Refusal::WayFault { state } => state,
             Refusal::UnknownStart { start } => start,
+            Refusal::Lent { which } => which,
+            Refusal::ForbiddenMove => 0,
+            Refusal::UnknownState => 1,
         }
     }
 }
