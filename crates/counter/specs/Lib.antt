@@ -1,3 +1,4 @@
 pub mod Ways
 pub mod Sound
 pub mod Steps
+pub mod Written

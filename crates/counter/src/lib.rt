@@ -9,6 +9,7 @@ ghost use Rattle.counter.specs.Ways.{grid-for, counterstrategy-of, Reads};
 ghost use Rattle.counter.specs.Sound.{way-verdict, Accepts, Beats};
 mod answers;
 mod check;
+pub mod laws;
 use check::Check;
 use check::CheckReasons;
 use game::refusal::Refusal;

@@ -2,3 +2,4 @@ pub mod Fitting
 pub mod Failing
 pub mod Within
 pub mod Words
+pub mod Gathered

@@ -2,3 +2,4 @@ pub mod Rows
 pub mod Faults
 pub mod Bounds
 pub mod Lanes
+pub mod Written

@@ -1,3 +1,4 @@
 pub mod Plans
 pub mod Sound
 pub mod Steps
+pub mod Written
