@@ -18,6 +18,8 @@ pub enum Refusal {
     Count { at: usize },
     // a start state has a bit too many: its first byte
     Start { at: usize },
+    // lent memory is too short: 0 for that of the sets, 1 for the table's, 2 for the counterstrategy's
+    Lent { which: usize },
 }
 
 impl Refusal {
@@ -33,6 +35,7 @@ impl Refusal {
             Refusal::Length { .. } => 4,
             Refusal::Count { .. } => 5,
             Refusal::Start { .. } => 6,
+            Refusal::Lent { .. } => 7,
         }
     }
 
@@ -42,6 +45,7 @@ impl Refusal {
     {
         match self {
             Refusal::CutOff { length } => length,
+            Refusal::Lent { which } => which,
             Refusal::GoesOn { at }
             | Refusal::Bits { at }
             | Refusal::Symbol { at }
