@@ -25,6 +25,7 @@ use Rattle.std.specs.declared.result.Result.the-variants.{Ok, Err}
 use Rattle.game.specs.Agree.{Agree}
 use Rattle.game.specs.Content.{Content, Valid}
 use Rattle.game.specs.Counterstrategy.{CounterHolds, turns}
+use Rattle.game.specs.Game.{Game}
 use Rattle.game.specs.Meaning.{game-of}
 use Rattle.game.specs.Plan.{PlanHolds}
 use Rattle.game.specs.Reading.{part, rules-in}
@@ -36,8 +37,9 @@ use Rattle.sets.specs.Member.{member}
 use Rattle.sets.specs.declared.arena.Arena.{Arena}
 use Rattle.sets.proofs.Arenas.{promises-is, goals-is}
 use Rattle.solver.specs.Call.{Memory, Fits, Solves}
-use Rattle.solver.specs.Rules.{Lent, GameFit, TableFit, WayFit, AllFits, Lacks, Beyond, Known, Winnable, Solves-rules, Read-call, Rules-call, plan-in, way-in}
+use Rattle.solver.specs.Rules.{Lent, GameFit, TableFit, WayFit, AllFits, Lacks, Beyond, Known, Winnable, Zeros, Zeros-at, Solves-rules, Read-call, Rules-call, plan-in, way-in}
 use Rattle.solver.specs.declared.memory.Short.the-variants.{Tables, Way}
+use Rattle.solver.specs.Solution.{Unused}
 use Rattle.solver.specs.Sizes.{Sizes, sizes-from, sizes-of, reply-count, entry-count, row-count}
 
 abbrev pub arena-sizes : Content → Arena → Sizes
@@ -80,6 +82,19 @@ rest-same k e xs ys q p f =
     let n : length ys ≡ k = omega (arith, q, length-append ys (drop e xs), length-drop e xs) in
     drop-at ys (drop e xs) k n ∙ ap (λ (x : ℕ). drop x xs) p
 
+-- what is not used in one game is not used in one that agrees with it
+unused-agrees : (g h : Game) (n m : ℕ) (known answers ranks waits layers avoids moves turned : List ℕ) → Agree g h →
+    Unused g n m known answers ranks waits layers avoids moves turned → Unused h n m known answers ranks waits layers avoids moves turned
+unused-agrees g h n m known answers ranks waits layers avoids moves turned ag u =
+    let in-goals = λ (j : ℕ) (lj : j < h .goals). subst (λ (k : ℕ). j < k) (sym (ag .goals)) lj in
+    record {
+      answer = λ j s e lj ls le k. u .answer j s e (in-goals j lj) ls le k;
+      illegal = λ j s e lj ls le k. u .illegal j s e (in-goals j lj) ls le (ag .moves s e ∙ k);
+      rank = λ j s lj ls k. u .rank j s (in-goals j lj) ls k;
+      layer = λ s ls k. u .layer s ls k;
+      move = λ i s li ls k. u .move i s (subst (λ (p : ℕ). i < turns p) (sym (ag .promises)) li) ls k;
+    }
+
 -- each state below n is known by the one or the other
 either-knows : (n s : ℕ) (b : Bool) → s < n → (b ≡ true) ⊎ ((ltb s n && not b) ≡ true)
 either-knows n s true l = inl refl
@@ -105,6 +120,11 @@ module _ (c : Content) (a : Arena) (l l′ : Lent) (v : Valid c) (ag : Agree (ar
       (Known (sizes-of c) (l′ .answer) s → Winnable c s) × (Winnable c s → Known (sizes-of c) (l′ .answer) s)
   both-ways s h =
       exactly (game-of c) (plan-in (sizes-of c) (l′ .answer)) (way-in (sizes-of c) (l′ .answer)) s (v .some-goal) plan counter (either s h)
+
+  zeros : Zeros c (l′ .answer)
+  zeros =
+      subst (λ (z : Sizes). Zeros-at (game-of c) z (l′ .answer)) e
+      (unused-agrees (arena-game a) (game-of c) _ _ _ _ _ _ _ _ _ _ ag (so .solution .unused))
 
   all-beyond : Beyond-game (sizes-of c) l l′ → Beyond (sizes-of c) l l′
   all-beyond b =
@@ -142,6 +162,7 @@ module _ (c : Content) (a : Arena) (l l′ : Lent) (v : Valid c) (ag : Agree (ar
             never-both (game-of c) (plan-in (sizes-of c) (l′ .answer)) (way-in (sizes-of c) (l′ .answer)) s (v .some-goal) plan counter p q;
         winnable = λ s h. both-ways s h .0;
         exactly = λ s h. both-ways s h .1;
+        zeros = zeros;
         some-round = some;
         most-rounds = subst (λ (z : Sizes). rounds ≤ z .states + 1) e most;
         beyond = all-beyond b;

@@ -4,6 +4,7 @@
 --   refused-lent           the refusal of slices that are too short
 --   plan-in, way-in        the table and the counterstrategy that lent slices hold
 --   Known, Winnable        the table knows a state; some controller wins from it
+--   Zeros                  what table and counterstrategy do not use is 0
 --   Beyond                 what goes beyond the entries of the sizes is as it was
 --   Solves-rules           what the lent slices hold after it
 --   Read-call              the outcome for rules that were read
@@ -19,6 +20,7 @@ use Rattle.std.specs.declared.result.Result.{Result}
 use Rattle.std.specs.declared.result.Result.the-variants.{Ok, Err}
 use Rattle.game.specs.Content.{Content}
 use Rattle.game.specs.Counterstrategy.{Counterstrategy, CounterHolds}
+use Rattle.game.specs.Game.{Game}
 use Rattle.game.specs.Meaning.{game-of}
 use Rattle.game.specs.Plan.{Plan, PlanHolds}
 use Rattle.game.specs.Play.{Controller, Winning}
@@ -28,7 +30,7 @@ use Rattle.game.specs.declared.refusal.Refusal.the-variants.{Lent as LentShort}
 use Rattle.sets.specs.Member.{member}
 use Rattle.solver.specs.Call.{Memory}
 use Rattle.solver.specs.Sizes.{Sizes, sizes-of, reply-count, entry-count, row-count, GameFits, TableFits, WayFits}
-use Rattle.solver.specs.Solution.{table, way}
+use Rattle.solver.specs.Solution.{Unused, table, way}
 use Rattle.solver.specs.declared.memory.Short.{Short}
 use Rattle.solver.specs.declared.memory.Short.the-variants.{Sets, Tables, Way}
 
@@ -92,6 +94,16 @@ Known z m s = member (take (z .states) (m .known)) s ≡ true
 abbrev pub Winnable : Content → ℕ → Type 0
 Winnable c s = (k : Controller) × Winning (game-of c) k s
 
+-- what the rows of table and counterstrategy do not use is 0
+abbrev pub Zeros-at : Game → Sizes → Memory → Type 0
+Zeros-at g z m =
+    Unused g (z .states) (z .moves) (take (z .states) (m .known)) (take (reply-count z) (m .answers)) (take (entry-count z) (m .ranks))
+    (take (entry-count z) (m .waits)) (take (z .states) (m .layers)) (take (z .states) (m .avoids)) (take (row-count z) (m .moves))
+    (take (row-count z) (m .turned))
+
+abbrev pub Zeros : Content → Memory → Type 0
+Zeros c m = Zeros-at (game-of c) (sizes-of c) m
+
 -- what goes beyond the entries of the sizes is as it was
 pub record Beyond (z : Sizes) (l l′ : Lent) : Type 0 where
   pub legal : drop (z .states) (l′ .legal) ≡ drop (z .states) (l .legal)
@@ -110,7 +122,7 @@ pub record Beyond (z : Sizes) (l l′ : Lent) : Type 0 where
 
 -- The slices were long enough. The table that they hold holds together in the game of the rules, and so does the
 -- counterstrategy; each state is known by the one or the other, and never by both; the table knows exactly the states
--- from which some controller wins. What goes beyond is as it was.
+-- from which some controller wins. What they do not use is 0, and what goes beyond them is as it was.
 pub record Solves-rules (c : Content) (l l′ : Lent) (rounds : ℕ) : Type 0 where
   pub fits : AllFits (sizes-of c) l
   pub plan-holds : PlanHolds (game-of c) (plan-in (sizes-of c) (l′ .answer))
@@ -120,6 +132,7 @@ pub record Solves-rules (c : Content) (l l′ : Lent) (rounds : ℕ) : Type 0 wh
   pub never-both : (s : ℕ) → plan-in (sizes-of c) (l′ .answer) .known 0 s ≡ true → way-in (sizes-of c) (l′ .answer) .known s ≡ true → ⊥
   pub winnable : (s : ℕ) → s < 2 ^ c .state → Known (sizes-of c) (l′ .answer) s → Winnable c s
   pub exactly : (s : ℕ) → s < 2 ^ c .state → Winnable c s → Known (sizes-of c) (l′ .answer) s
+  pub zeros : Zeros c (l′ .answer)
   pub some-round : 0 < rounds
   pub most-rounds : rounds ≤ 2 ^ c .state + 1
   pub beyond : Beyond (sizes-of c) l l′

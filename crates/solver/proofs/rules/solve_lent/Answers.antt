@@ -8,12 +8,11 @@ use Rattle.solver.proofs.rules.solve_lent.Needs as need
 pub returns-then-not-table-fits : need.returns-then-not-table-fits
 returns-then-not-table-fits c =
     let l = all-lent (c .args .legal .now) (c .args .allowed .now) (c .args .next .now) (c .args .promises .now) (c .args .goals .now) (c .args .sets .now)
-    (lent (c .args .known .now) (c .args .answers .now) (c .args .ranks .now) (c .args .waits .now) (c .args .layers .now) (c .args .avoids .now) (c .args .moves .now) (c .args .turns .now)) in
-    (
+    (lent (c .args .known .now) (c .args .answers .now) (c .args .ranks .now) (c .args .waits .now) (c .args .layers .now) (c .args .avoids .now) (c .args .moves .now) (c .args .turns .now)) in (
       (
         Tables,
         lacks-table _ _ l _ _ (c .of-needs .ensures) (c .game-fits .ensures) (c .if-not-game-fits .left) (c .table-fits .ensures)
-        (c .if-not-table-fits .taken),
+            (c .if-not-table-fits .taken),
         c .refuse-then-not-table-fits .ensures,
       ),
       refl,
@@ -22,12 +21,11 @@ returns-then-not-table-fits c =
 pub returns-then-not-way-fits : need.returns-then-not-way-fits
 returns-then-not-way-fits c =
     let l = all-lent (c .args .legal .now) (c .args .allowed .now) (c .args .next .now) (c .args .promises .now) (c .args .goals .now) (c .args .sets .now)
-    (lent (c .args .known .now) (c .args .answers .now) (c .args .ranks .now) (c .args .waits .now) (c .args .layers .now) (c .args .avoids .now) (c .args .moves .now) (c .args .turns .now)) in
-    (
+    (lent (c .args .known .now) (c .args .answers .now) (c .args .ranks .now) (c .args .waits .now) (c .args .layers .now) (c .args .avoids .now) (c .args .moves .now) (c .args .turns .now)) in (
       (
         Way,
         lacks-way _ _ l _ _ _ (c .of-needs .ensures) (c .game-fits .ensures) (c .if-not-game-fits .left) (c .table-fits .ensures)
-        (c .if-not-table-fits .left) (c .way-fits .ensures) (c .if-not-way-fits .taken),
+            (c .if-not-table-fits .left) (c .way-fits .ensures) (c .if-not-way-fits .taken),
         c .refuse-then-not-way-fits .ensures,
       ),
       refl,

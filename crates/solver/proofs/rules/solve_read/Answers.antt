@@ -28,15 +28,13 @@ returns c =
     let f = c .solve-front .ensures in
     let l = all-lent (c .args .legal .now) (c .args .allowed .now) (c .args .next .now) (c .args .promises .now) (c .args .goals .now) (c .args .sets .now)
     (lent (c .args .known .now) (c .args .answers .now) (c .args .ranks .now) (c .args .waits .now) (c .args .layers .now) (c .args .avoids .now) (c .args .moves .now) (c .args .turns .now)) in
-    let k = c .solve-front .last in
     let w = c .pre .fits .0 in
-    let l′ = all-lent _ _ _ _ _ (k .sets) (lent (k .known) (k .answers) (k .ranks) (k .waits) (k .layers) (k .avoids) (k .moves) (k .turns)) in
-    solves-rules (content r) a l l′ (c .pre .sound) (t .agrees) (same-sizes (content r) a (t .states) (t .moves) (t .agrees)) (f .solves)
+    solves-rules (content r) a l _ (c .pre .sound) (t .agrees) (same-sizes (content r) a (t .states) (t .moves) (t .agrees)) (f .solves)
     (c .solve-front .result) (subst (λ (z : Sizes). AllFits z l) e (c .pre .fits)) (f .rounds .0) (f .rounds .1)
-    (beyond-at (sizes-from (n .states) (n .moves) (n .answers) (n .goals) (n .turns)) (sizes-of (content r)) l l′ e (record {
-      legal = rest-same (n .states) (n .states - 0) (c .args .legal .now) _ (c .legal·1 .given .2) (omega arith) (w .0);
-      allowed = rest-same (n .states * n .moves) (c .steps .result - 0) (c .args .allowed .now) _ (c .allowed·1 .given .2) (omega arith) (w .1);
-      next = rest-same (n .states * n .moves * n .answers) (c .nexts .result - 0) (c .args .next .now) _ (c .next·1 .given .2) (omega arith) (w .2);
-      promises = rest-same (n .states) (n .states - 0) (c .args .promises .now) _ (c .promises·1 .given .2) (omega arith) (w .3);
-      goals = rest-same (n .states) (n .states - 0) (c .args .goals .now) _ (c .goals·1 .given .2) (omega arith) (w .4);
+    (beyond-at (sizes-from (n .states) (n .moves) (n .answers) (n .goals) (n .turns)) (sizes-of (content r)) l _ e (record {
+      legal = rest-same (n .states) (n .states - 0) (c .args .legal .now) _ (grind arith) (omega arith) (w .0);
+      allowed = rest-same (n .states * n .moves) (c .steps .result - 0) (c .args .allowed .now) _ (grind arith) (omega arith) (w .1);
+      next = rest-same (n .states * n .moves * n .answers) (c .nexts .result - 0) (c .args .next .now) _ (grind arith) (omega arith) (w .2);
+      promises = rest-same (n .states) (n .states - 0) (c .args .promises .now) _ (grind arith) (omega arith) (w .3);
+      goals = rest-same (n .states) (n .states - 0) (c .args .goals .now) _ (grind arith) (omega arith) (w .4);
     }))

@@ -10,8 +10,7 @@ use Rattle.solver.proofs.needs.Needs.of.Needs as need
 
 pub ghost-result : need.ghost-result
 ghost-result c =
-    let r = c .args .rules .now in
-    (
+    let r = c .args .rules .now in (
       omega (arith, c .states .ensures, most-states (r .widths .state)),
       (
         omega (arith, c .moves .ensures, most-moves (r .widths .moves)),
