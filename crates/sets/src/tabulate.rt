@@ -119,6 +119,7 @@ pub fn tabulate<'a>(
     requires room { ⌜ Sized (content (now rules)) (now legal) (now allowed) (now next) (now promises) (now goals) ⌝ }
     ensures agrees { λ r. ⌜ Agree (arena-game r) (game-of (content (now (rules .entry)))) ⌝ }
     ensures states { λ r. ⌜ r .states ≡ state-count (content (now (rules .entry))) ⌝ }
+    ensures moves { λ r. ⌜ r .moves ≡ move-count (content (now (rules .entry))) ⌝ }
 {
     tabulate_legal(rules, legal);
     tabulate_allowed(rules, legal, allowed);

@@ -13,3 +13,4 @@ pub mod Answering
 pub mod Moving
 pub mod Solving
 pub mod Calls
+pub mod OfRules

@@ -8,3 +8,5 @@ pub mod Settle
 pub mod Choice
 pub mod Solution
 pub mod Call
+pub mod Sizes
+pub mod Rules

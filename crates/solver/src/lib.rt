@@ -5,5 +5,7 @@ mod inner;
 pub mod memory;
 mod middle;
 mod moves;
+pub mod needs;
 mod outer;
+pub mod rules;
 pub mod solve;

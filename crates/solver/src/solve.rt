@@ -118,7 +118,7 @@ fn too_short(
 }
 
 // Solves the game in slices that are long enough; what goes beyond what it takes is left as it is.
-fn solve_front(
+pub(crate) fn solve_front(
     arena: Arena<'_>,
     sets: &mut [u8],
     known: &mut [u8],

@@ -82,4 +82,5 @@ returns c =
         tables = t .1;
       });
       states = c .states .ensures;
+      moves = c .moves .ensures;
     }
