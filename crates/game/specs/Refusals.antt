@@ -1,7 +1,7 @@
 -- The number and the place of each refusal. Assumes nothing.
 use Prim.Native.Nat.{ℕ}
 use Rattle.game.specs.declared.refusal.Refusal.{Refusal}
-use Rattle.game.specs.declared.refusal.Refusal.the-variants.{CutOff, GoesOn, Bits, Symbol, Length, Count, Start}
+use Rattle.game.specs.declared.refusal.Refusal.the-variants.{CutOff, GoesOn, Bits, Symbol, Length, Count, Start, TableFault, WayFault, UnknownStart}
 
 -- the number that a refusal is printed with
 abbrev pub number-of : Refusal → ℕ
@@ -12,8 +12,11 @@ number-of (Symbol n) = 3
 number-of (Length n) = 4
 number-of (Count n) = 5
 number-of (Start n) = 6
+number-of (TableFault n) = 8
+number-of (WayFault n) = 9
+number-of (UnknownStart n) = 10
 
--- the place that it is printed with: a byte of the file, or the file's length where bytes lack
+-- the place that it is printed with: a byte of the file, or the file's length where bytes lack; a state; a start's number
 abbrev pub place-of : Refusal → ℕ
 place-of (CutOff n) = n
 place-of (GoesOn n) = n
@@ -22,3 +25,6 @@ place-of (Symbol n) = n
 place-of (Length n) = n
 place-of (Count n) = n
 place-of (Start n) = n
+place-of (TableFault n) = n
+place-of (WayFault n) = n
+place-of (UnknownStart n) = n

@@ -18,6 +18,12 @@ pub enum Refusal {
     Count { at: usize },
     // a start state has a bit too many: its first byte
     Start { at: usize },
+    // a table does not hold together: the first state with a faulty row
+    TableFault { state: usize },
+    // a counterstrategy does not hold together: the first state with a faulty row
+    WayFault { state: usize },
+    // a start that the table, or the counterstrategy, does not know: its number among the starts
+    UnknownStart { start: usize },
 }
 
 impl Refusal {
@@ -33,6 +39,9 @@ impl Refusal {
             Refusal::Length { .. } => 4,
             Refusal::Count { .. } => 5,
             Refusal::Start { .. } => 6,
+            Refusal::TableFault { .. } => 8,
+            Refusal::WayFault { .. } => 9,
+            Refusal::UnknownStart { .. } => 10,
         }
     }
 
@@ -48,6 +57,8 @@ impl Refusal {
             | Refusal::Length { at }
             | Refusal::Count { at }
             | Refusal::Start { at } => at,
+            Refusal::TableFault { state } | Refusal::WayFault { state } => state,
+            Refusal::UnknownStart { start } => start,
         }
     }
 }

@@ -1,0 +1,4 @@
+pub mod Fitting
+pub mod Failing
+pub mod Within
+pub mod Words
