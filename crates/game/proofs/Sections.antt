@@ -14,7 +14,7 @@ use Rattle.game.specs.Content.{first-formula, other-formulas, formulas-of, nth
 use Rattle.game.specs.Meaning.{value-of, number}
 use Rattle.game.proofs.FormulaSteps.{take-capped}
 
-drop-capped : (n : ℕ) (xs : List ℕ) → drop (min n (length xs)) xs ≡ drop n xs
+pub drop-capped : (n : ℕ) (xs : List ℕ) → drop (min n (length xs)) xs ≡ drop n xs
 drop-capped n xs =
     ⊎-elim
     (λ h. let e : min n (length xs) ≡ n = omega arith in rw e refl)

@@ -24,6 +24,10 @@ pub enum Refusal {
     WayFault { state: usize },
     // a start that the table, or the counterstrategy, does not know: its number among the starts
     UnknownStart { start: usize },
+    // a move that the environment may not make in the state
+    ForbiddenMove,
+    // a state that the table does not know for the goal gone for
+    UnknownState,
 }
 
 impl Refusal {
@@ -42,6 +46,8 @@ impl Refusal {
             Refusal::TableFault { .. } => 8,
             Refusal::WayFault { .. } => 9,
             Refusal::UnknownStart { .. } => 10,
+            Refusal::ForbiddenMove => 11,
+            Refusal::UnknownState => 11,
         }
     }
 
@@ -59,6 +65,8 @@ impl Refusal {
             | Refusal::Start { at } => at,
             Refusal::TableFault { state } | Refusal::WayFault { state } => state,
             Refusal::UnknownStart { start } => start,
+            Refusal::ForbiddenMove => 0,
+            Refusal::UnknownState => 1,
         }
     }
 }
