@@ -12,6 +12,7 @@ use std::alloc::AllocError;
 use std::alloc::Global;
 use table::Table;
 
+mod accepted;
 pub mod theorems;
 
 #[derive(Clone, Copy)]
