@@ -9,13 +9,19 @@ use native.Mathlib.Omega.{arith}
 use native.Mathlib.Numerals.{add-one}
 use Rattle.std.specs.declared.option.Option.{Option}
 use Rattle.std.specs.declared.option.Option.the-variants.{Some, None}
-use Rattle.std.proofs.shelf.Tests.{cases-lt, lt-ltb, le-ltb, and-left, and-right}
-use Rattle.game.specs.Finite.{all}
+use Rattle.std.proofs.shelf.Tests.{cases-lt, lt-ltb, le-ltb, ltb-true, ltb-false, and-left, and-right, false≢true}
 use Rattle.std.specs.declared.result.Result.the-variants.{Ok, Err}
 use Rattle.game.specs.declared.refusal.Refusal.{Refusal}
-use Rattle.game.specs.declared.refusal.Refusal.the-variants.{UnknownStart}
+use Rattle.game.specs.declared.refusal.Refusal.the-variants.{UnknownStart, CutOff, GoesOn}
 use Rattle.game.specs.Content.{Content}
-use Rattle.rows.specs.Faults.{earlier, first-failing, count-of, start-known, verdict-of}
+use mathlib.Core.List.{List}
+use Rattle.std.specs.Options.{mapped}
+use Rattle.std.specs.Results.{isOk}
+use Rattle.std.specs.Orderings.{Decides}
+use Rattle.game.specs.Finite.{all, implies}
+use Rattle.game.proofs.Tested.{decides-all}
+use Rattle.rows.specs.Rows.{missized}
+use Rattle.rows.specs.Faults.{earlier, first-failing, count-of, start-known, settled, verdict-of}
 
 -- one more number that passes
 pub none-more : (test : ℕ → Bool) (n : ℕ) → first-failing n test ≡ None → test n ≡ true → first-failing (n + 1) test ≡ None
@@ -92,3 +98,64 @@ below a b x y p q h = lt-ltb x y (omega arith)
 
 pub not-below : (a b x y : ℕ) → a ≡ x → b ≡ y → b ≤ a → ltb x y ≡ false
 not-below a b x y p q h = le-ltb x y (omega arith)
+
+no-fault : {o : Option ℕ} {k : ℕ} → o ≡ Some k → o ≡ None → ⊥
+no-fault p q = let z : _≡_ {A = ℕ} 0 1 = cc in omega arith
+
+-- whether there is no refusal
+abbrev pub isNone : Option Refusal → Bool
+isNone None = true
+isNone (Some e) = false
+
+-- a verdict is acceptance exactly if every state holds together and every start is known
+pub decides-verdict : (c : Content) (sound known : ℕ → Bool) (blame : ℕ → Refusal) →
+    Decides (isOk (verdict-of c sound known blame))
+    (((s : ℕ) → s < 2 ^ c .state → sound s ≡ true) × ((k : ℕ) → k < length (c .starts) → start-known known (c .starts) k ≡ true))
+decides-verdict c sound known blame =
+    by (first-failing (2 ^ c .state) sound) (first-failing (length (c .starts)) (start-known known (c .starts))) refl refl
+  where
+    by : (f u : Option ℕ) → first-failing (2 ^ c .state) sound ≡ f → first-failing (length (c .starts)) (start-known known (c .starts)) ≡ u →
+        Decides (isOk (settled (mapped blame f) (mapped UnknownStart u) (count-of (2 ^ c .state) known)))
+        (((s : ℕ) → s < 2 ^ c .state → sound s ≡ true) × ((k : ℕ) → k < length (c .starts) → start-known known (c .starts) k ≡ true))
+    by (Some s) u p q = (λ e. absurd (false≢true e), λ both. absurd (no-fault (p ∙ refl) (all-none sound _ (both .0))))
+    by None (Some k) p q = (λ e. absurd (false≢true e), λ both. absurd (no-fault q (all-none (start-known known (c .starts)) _ (both .1))))
+    by None None p q = (λ _. (none-all sound _ p, none-all (start-known known (c .starts)) _ q), λ _. refl)
+
+-- bytes of the right length, and only they, are not missized
+pub sized : (n : ℕ) (bs : List ℕ) → Decides (isNone (missized n bs)) (length bs ≡ n)
+sized n bs = by (ltb (length bs) n) (ltb n (length bs)) refl refl
+  where
+    by : (a b : Bool) → ltb (length bs) n ≡ a → ltb n (length bs) ≡ b →
+        Decides (isNone (cond a (Some (CutOff (length bs))) (cond b (Some (GoesOn n)) None))) (length bs ≡ n)
+    by true b p q = (λ e. absurd (false≢true e), λ e. absurd (let h = ltb-true _ _ p in omega arith))
+    by false true p q = (λ e. absurd (false≢true e), λ e. absurd (let h = ltb-true _ _ q in omega arith))
+    by false false p q = (λ _. let h = ltb-false _ _ p in let k = ltb-false _ _ q in omega arith, λ _. refl)
+
+-- a test of each number below a bound is true exactly if it is true at each
+pub each : (test : ℕ → Bool) (n : ℕ) → Decides (all n test) ((k : ℕ) → k < n → test k ≡ true)
+each test n = decides-all test (λ k. test k ≡ true) (λ k. (λ e. e, λ e. e)) n
+
+-- tests that are equal where a first one is true
+pub under : (b : Bool) {x y : Bool} → (b ≡ true → x ≡ y) → implies b x ≡ implies b y
+under true f = f refl
+under false f = refl
+
+pub and-assoc : (x y z : Bool) → (x && (y && z)) ≡ ((x && y) && z)
+and-assoc true y z = refl
+and-assoc false y z = refl
+
+-- a test under a guard, which the code asks first; a count is n in the code and m in the definition
+pub guard-then : (i n m : ℕ) (b x : Bool) → b ≡ x → m ≡ n → i < n → b ≡ (ltb i m && x)
+guard-then i n m b x e k h = rw (lt-ltb i m (omega arith)) e
+
+pub guard-else : (i n m : ℕ) (x : Bool) → m ≡ n → n ≤ i → ltb i n ≡ (ltb i m && x)
+guard-else i n m x k h = rw (le-ltb i m (omega arith), le-ltb i n h) refl
+
+-- a test that is asked only where another is true
+pub implied : (b x : Bool) → implies b x ≡ true → b ≡ true → x ≡ true
+implied true x e h = e
+implied false x e h = absurd (false≢true h)
+
+pub implies-by : (b x : Bool) → (b ≡ true → x ≡ true) → implies b x ≡ true
+implies-by true x f = f refl
+implies-by false x f = refl

@@ -1,6 +1,6 @@
 -- Rows in a machine's numbers: their places fit, what the code cuts out is the row, and a start stands where it is read.
 use mathlib.Core.Path.{_≡_, refl, sym, ap, _∙_}
-use mathlib.Core.Bool.{true, false, cond, _&&_}
+use mathlib.Core.Bool.{Bool, true, false, cond, _&&_}
 use mathlib.Core.Logic.{_⊎_, ⊎-elim}
 use mathlib.Core.List.{List, [], _∷_}
 use Prim.Native.Nat.{ℕ, zero, suc, _+_, _*_, _^_, _<_, _≤_, min}
@@ -11,7 +11,7 @@ use lib.ListN.{length, take, drop, getD}
 use lib.Pow.{pow-lt}
 use Rattle.std.proofs.shelf.Bits.{mul-le}
 use Rattle.std.proofs.shelf.Lists.{getD-drop}
-use Rattle.std.proofs.shelf.Tests.{cases-lt, le-ltb, lt-ltb, and-left, and-right, and-from, cond-false, cond-true}
+use Rattle.std.proofs.shelf.Tests.{cases-lt, le-ltb, lt-ltb, ltb-true, and-left, and-right, and-from, cond-false, cond-true}
 use Rattle.game.specs.Content.{starts-of, formulas-of, other-formulas}
 use Rattle.game.proofs.FormulaSteps.{take-capped}
 use Rattle.game.proofs.Sections.{drop-capped}
@@ -76,3 +76,14 @@ few n bits most e =
     ⊎-elim (λ l. omega (arith, pow-lt l))
     (λ l. let same : min bits most ≡ most = omega arith in omega (arith, ap (λ k. 2 ^ k) same))
     (cases-lt (min bits most) most)
+
+-- a row that holds something is a row of the grid
+pub row-is : (g : Grid) (bs : List ℕ) (j n : ℕ) → 0 < getD (row-at g bs j n) 0 0 → (j < g .groups) × (n < g .each)
+unfolding row-at
+row-is g bs j n h = by (ltb j (g .groups)) (ltb n (g .each)) refl refl h
+  where
+    by : (a b : Bool) → ltb j (g .groups) ≡ a → ltb n (g .each) ≡ b →
+        0 < getD (cond (a && b) (take (g .size) (drop ((j * g .each + n) * g .size) bs)) []) 0 0 → (j < g .groups) × (n < g .each)
+    by true true p q h = (ltb-true _ _ p, ltb-true _ _ q)
+    by true false p q h = absurd (omega arith)
+    by false b p q h = absurd (omega arith)

@@ -1,18 +1,25 @@
 // The checker of tables: it evaluates the rules themselves, move by move, and believes nobody.
 ghost use mathlib.Core.Path.{_≡_};
+ghost use mathlib.Core.Bool.{true};
 ghost use Prim.Native.Nat.{_<_};
 ghost use Rattle.game.specs.Game.{next-around};
 ghost use Rattle.game.specs.Content.{content};
 ghost use Rattle.game.specs.Meaning.{game-of};
 ghost use Rattle.game.specs.declared.refusal.Refusal.the-variants.{TableFault};
-ghost use Rattle.table.specs.Plans.{sheet-of, plan-of};
-ghost use Rattle.table.specs.Sound.{answers-fit, row-in-range, steps-sound, row-sound, state-sound};
-ghost use Rattle.table.specs.Steps.{unkept, StandsFor, onward};
+ghost use Rattle.rows.specs.Rows.{row-at};
+ghost use Rattle.table.specs.Plans.{waits-in, sheet-of, plan-of};
+ghost use Rattle.table.specs.Sound.{waits-fits, answers-fit, steps-sound, row-sound, state-sound};
+ghost use Rattle.table.specs.Steps.{unkept, StandsFor, onward, LegalIn, StepsOf, step-by};
 use crate::NO_PROMISE;
 use crate::Table;
+use crate::moves::Moves;
+use crate::moves::MovesLanes;
 use game::refusal::Refusal;
 use game::rules::Rules;
 use rows::judge::Reasons;
+use rows::lanes::afters;
+use rows::lanes::lane;
+use rows::lanes::lane_number;
 use rows::row::Row;
 
 // A table beside the rules that it is for.
@@ -35,6 +42,14 @@ struct Here {
     waiting: bool,
 }
 
+// The steps from one row, lane e by the move e: which are legal and allowed, and where they lead, bit by bit.
+#[derive(Clone, Copy)]
+struct Steps {
+    legal: u64,
+    allowed: u64,
+    after: [u64; 12],
+}
+
 impl Check<'_> {
     // Whether no answer of a row has a bit too many.
     fn answers_fit(&self, row: Row) -> bool
@@ -48,15 +63,12 @@ impl Check<'_> {
         true
     }
 
-    // Whether a row is known or not, and in a known one each answer fits, and what is waited for is a promise or none.
-    fn in_range(&self, row: Row) -> bool
-        ensures { λ r. ⌜ r ≡ row-in-range (content (now (self .entry) .rules)) (now (self .entry) .table .moves) (now (row .entry .bytes)) ⌝ }
+    // Whether what a row waits for is a promise or none.
+    fn waits_fit(&self, row: Row) -> bool
+        ensures { λ r. ⌜ r ≡ waits-fits (content (now (self .entry) .rules)) (waits-in (now (self .entry) .table .moves) (now (row .entry .bytes))) ⌝ }
     {
-        if !row.known() {
-            return row.byte(0) == 0;
-        }
         let waits = row.byte(3 + self.table.moves as usize);
-        (waits < self.rules.promises.count || waits == NO_PROMISE) && self.answers_fit(row)
+        waits < self.rules.promises.count || waits == NO_PROMISE
     }
 
     // The goal gone for after a state in which the goal holds.
@@ -64,7 +76,8 @@ impl Check<'_> {
         requires { ⌜ goal < now self .rules .goals .count ⌝ }
         ensures { λ r. ⌜ r ≡ next-around (game-of (content (now (self .entry) .rules)) .goals) goal ⌝ }
     {
-        if goal + 1 == self.rules.goals.count { 0 } else { goal + 1 }
+        let goals = self.rules.goals.count;
+        if goal + 1 == goals { 0 } else { goal + 1 }
     }
 
     // Whether a promise is one of those that there are, and does not hold in the state.
@@ -101,19 +114,50 @@ impl Check<'_> {
             || (rank == here.rank && self.table.waits(here.goal, after) == here.waits && here.waiting)
     }
 
-    // Whether the answer to each move that the environment may make is allowed and leads on.
+    // Lane e says whether the environment may make the move e in the state.
+    fn legal(&self, state: u16) -> u64
+        ensures { λ r. ⌜ LegalIn (content (now (self .entry) .rules)) state r ⌝ }
+    {
+        if state as u32 >= self.rules.widths.states() {
+            return 0;
+        }
+        self.rules.steps.moves.values(&Moves { state, row: Row { bytes: &[] } })
+    }
+
+    // The steps from the row of a goal and a state.
+    fn steps(&self, goal: u8, state: u16) -> Steps
+        requires { ⌜ answers-fit (content (now self .rules)) (row-at (now self .table .rows .grid) (now (now self .table .rows .bytes)) goal state) ≡ true ⌝ }
+        ensures { λ r. ⌜ StepsOf (content (now (self .entry) .rules)) (plan-of (sheet-of (now (self .entry) .table))) goal state r ⌝ }
+    {
+        let row = self.table.rows.row(goal, state as u32);
+        let moves = Moves { state, row };
+        Steps {
+            legal: self.legal(state),
+            allowed: self.rules.steps.answers.values(&moves),
+            after: afters(&self.rules, &moves),
+        }
+    }
+
+    // Whether a move, where the environment may make it, has an answer that is allowed and leads on.
+    fn step_holds(&self, here: Here, steps: &Steps, moved: u8) -> bool
+        ensures { λ r. ⌜ r ≡ step-by (plan-of (sheet-of (now (self .entry) .table))) here (now (steps .entry)) moved ⌝ }
+    {
+        if !lane(steps.legal, moved) {
+            return true;
+        }
+        lane(steps.allowed, moved) && self.goes_on(here, lane_number(&steps.after, moved))
+    }
+
+    // Whether all steps from the row of a goal and a state hold.
     fn steps_hold(&self, goal: u8, state: u16) -> bool
-        requires { ⌜ goal < now self .rules .goals .count ⌝ }
+        requires goal { ⌜ goal < now self .rules .goals .count ⌝ }
+        requires fit { ⌜ answers-fit (content (now self .rules)) (row-at (now self .table .rows .grid) (now (now self .table .rows .bytes)) goal state) ≡ true ⌝ }
         ensures { λ r. ⌜ r ≡ steps-sound (content (now (self .entry) .rules)) (plan-of (sheet-of (now (self .entry) .table))) goal state ⌝ }
     {
         let here = self.here(goal, state);
+        let steps = self.steps(goal, state);
         for moved in 0..self.rules.widths.moves() {
-            let moved = moved as u8;
-            let answer = self.table.answer(goal, state, moved);
-            if self.rules.may_move(state, moved)
-                && !(self.rules.allows(state, moved, answer)
-                    && self.goes_on(here, self.rules.after(state, moved, answer)))
-            {
+            if !self.step_holds(here, &steps, moved as u8) {
                 return false;
             }
         }
@@ -126,7 +170,10 @@ impl Check<'_> {
         ensures { λ r. ⌜ r ≡ row-sound (content (now (self .entry) .rules)) (sheet-of (now (self .entry) .table)) goal state ⌝ }
     {
         let row = self.table.rows.row(goal, state as u32);
-        self.in_range(row) && (!row.known() || self.steps_hold(goal, state))
+        if !row.known() {
+            return row.byte(0) == 0;
+        }
+        self.waits_fit(row) && self.answers_fit(row) && self.steps_hold(goal, state)
     }
 }
 

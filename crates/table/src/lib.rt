@@ -7,6 +7,7 @@ ghost use Rattle.game.specs.Content.{content};
 ghost use Rattle.table.specs.Plans.{Reads, sheet-of, plan-of, grid-for};
 ghost use Rattle.table.specs.Sound.{table-verdict, Accepts, Wins};
 mod check;
+mod moves;
 use check::Check;
 use check::CheckReasons;
 use game::refusal::Refusal;

@@ -8,7 +8,7 @@ use Rattle.table.proofs.check.Check.answers_fit.Needs as need
 
 pub returns-then-byte-answers : need.returns-then-byte-answers
 returns-then-byte-answers c =
-    all-stop (answer-fits (content (c .args .self .now .rules)) (now (c .args .row .bytes))) (c .moves .result) _ (c .loop-moved .moved) (c .moves .ensures)
+    all-stop (answer-fits (content (c .args .self .now .rules)) (now (c .args .row .bytes))) (c .moves-moved-end .result) _ (c .loop-moved .moved) (c .moves-moved-end .ensures)
     (c .loop-moved-test .taken) (not-below _ _ _ _ (c .byte .ensures) (c .answers .ensures) (c .if-byte-answers .taken))
 
 pub loop-moved-again : need.loop-moved-again
@@ -18,5 +18,5 @@ loop-moved-again c =
 
 pub returns : need.returns
 returns c =
-    all-end (answer-fits (content (c .args .self .now .rules)) (now (c .args .row .bytes))) (c .loop-moved .moved) (c .moves .result) _
-    (c .loop-moved-test .left) (omega arith) (c .moves .ensures) (c .loop-moved .inv)
+    all-end (answer-fits (content (c .args .self .now .rules)) (now (c .args .row .bytes))) (c .loop-moved .moved) (c .moves-moved-end .result) _
+    (c .loop-moved-test .left) (omega arith) (c .moves-moved-end .ensures) (c .loop-moved .inv)
