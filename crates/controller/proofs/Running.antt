@@ -3,13 +3,12 @@
 --   run-more     one more move was answered
 --   run-refused  the next move was refused, and nothing changed
 --   run-ended    all that is promised of a run, once it has stopped
-use mathlib.Core.Path.{_≡_, refl, sym, ap, subst, _∙_}
+use mathlib.Core.Path.{_≡_, sym, ap, subst, _∙_}
 use mathlib.Core.List.{List, [], _∷_, _++_}
 use Prim.Native.Nat.{ℕ, _+_, _<_}
 use lib.ListN.{length, take, getD}
 use Rattle.std.specs.Of.Vec.{vec-items}
-use Rattle.std.specs.declared.option.Option.{Option}
-use Rattle.std.specs.declared.option.Option.the-variants.{Some, None}
+use Rattle.std.specs.declared.option.Option.the-variants.{Some}
 use Rattle.std.specs.declared.result.Result.{Result}
 use Rattle.std.specs.declared.result.Result.the-variants.{Ok, Err}
 use Rattle.std.proofs.shelf.Lists.{take-more}
@@ -24,7 +23,7 @@ use Rattle.table.specs.declared.Table.{Table}
 use Rattle.table.specs.Plans.{sheet-of, plan-of}
 use Rattle.controller.specs.declared.Controller.{Controller}
 use Rattle.controller.specs.declared.Ran.{Ran}
-use Rattle.controller.specs.Steps.{game-in, plan-in, place-in, onward, answer-at, refusal-at, Steps}
+use Rattle.controller.specs.Steps.{game-in, plan-in, place-in, refusal-at, Steps}
 use Rattle.controller.specs.Runs.{Walks, Runs, Stops}
 use Rattle.controller.specs.Outcomes.{Same, Steps-to, Plays-to, Safe-to}
 use Rattle.controller.proofs.Walking.{walk-more, walks-play, runs-safe}

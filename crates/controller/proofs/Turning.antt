@@ -3,7 +3,7 @@
 --   starts-again  where the last one holds, the first one is
 --   turns         where another one holds, the next one is
 --   none          a goal that there is not holds nowhere
-use mathlib.Core.Path.{_≡_, refl, ap, sym}
+use mathlib.Core.Path.{_≡_, ap}
 use mathlib.Core.Bool.{true, false}
 use mathlib.Core.List.{List, []}
 use Prim.Native.Nat.{ℕ, suc, _+_, _≤_}
@@ -12,7 +12,7 @@ use lib.Dec.{eqb}
 use lib.ListN.{length, getD}
 use Rattle.std.proofs.shelf.Lists.{getD-past}
 use Rattle.formula.specs.Reading.{forest}
-use Rattle.game.specs.Game.{Game, pick, goal-after}
+use Rattle.game.specs.Game.{Game, goal-after}
 use Rattle.game.specs.Meaning.{value-of}
 
 pub stays : (g : Game) (j s : ℕ) → g .goal j s ≡ false → j ≡ goal-after g j s

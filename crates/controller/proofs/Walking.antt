@@ -4,7 +4,7 @@
 --   legal-at             what is not refused is legal
 --   walks-safe           a walk on a plan that holds together has no forbidden answer and ends where the plan knows on
 --   runs-safe            the same of a run, which is not refused because a state is not known
-use mathlib.Core.Path.{_≡_, refl, sym, ap, _∙_}
+use mathlib.Core.Path.{_≡_, refl, ap, _∙_}
 use mathlib.Core.Bool.{Bool, true, false, cond}
 use mathlib.Core.List.{List, [], _∷_, _++_}
 use Prim.Native.Nat.{ℕ}
@@ -20,7 +20,7 @@ use Rattle.game.specs.Play.{Now, now-after, follow}
 use Rattle.game.specs.Theorems.{On-plan}
 use Rattle.game.proofs.Cycle.{turn-below}
 use Rattle.controller.specs.Steps.{answer-at, onward, refusal-at}
-use Rattle.controller.specs.Runs.{Walks, Runs, Allowed, Safe, answers-to}
+use Rattle.controller.specs.Runs.{Walks, Allowed, answers-to}
 use Rattle.controller.specs.Theorems.{Walks-play, Runs-safe}
 
 pub walk-more : (g : Game) (p : Plan) (w : Now) (moves answers : List ℕ) (v : Now) (e a : ℕ) →

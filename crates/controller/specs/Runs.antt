@@ -16,7 +16,7 @@ use Rattle.std.specs.declared.option.Option.the-variants.{Some, None}
 use Rattle.game.specs.declared.refusal.Refusal.{Refusal}
 use Rattle.game.specs.declared.refusal.Refusal.the-variants.{UnknownState}
 use Rattle.game.specs.Game.{Game}
-use Rattle.game.specs.Plan.{Plan, PlanHolds}
+use Rattle.game.specs.Plan.{Plan}
 use Rattle.game.specs.Play.{Controller, Now, now-after, follow}
 use Rattle.game.specs.Theorems.{On-plan}
 use Rattle.controller.specs.Steps.{answer-at, onward, refusal-at}

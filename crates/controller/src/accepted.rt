@@ -19,8 +19,7 @@ impl<'a> Controller<'a> {
         let table = Table::read(&rules, bytes)?;
         let state = Row {
             bytes: rules.starts.bytes,
-        }
-        .pair(2 * start as u16);
+        }.pair(2 * start as u16);
         Ok(Controller::new(rules, table, state))
     }
 }

@@ -7,7 +7,7 @@ use mathlib.Core.Path.{_≡_, refl, sym, ap, _∙_}
 use mathlib.Core.Logic.{_⊎_, inl, inr, ⊎-elim}
 use mathlib.Core.List.{List, [], _∷_, _++_, append-assoc, append-nil}
 use mathlib.Core.Bool.{Bool, true, false}
-use Prim.Native.Nat.{ℕ, suc, _+_, _/_, _%_, _≤_, _<_, min}
+use Prim.Native.Nat.{ℕ, _+_, _/_, _%_, _≤_, _<_, min}
 use native.Mathlib.Omega.{arith}
 use native.Mathlib.Numerals.{add-one}
 use lib.Dec.{ltb}
@@ -26,7 +26,7 @@ use Rattle.controller.specs.Outcomes.{Plays-to, Safe-to}
 use Rattle.play.specs.declared.recording.Recording.{Recording}
 use Rattle.play.specs.Recorded.{logged, Recorded}
 use Rattle.play.specs.Logs.{Step, paired, spelled, bytes-of}
-use Rattle.play.specs.Replays.{states-after, states-from, states-along}
+use Rattle.play.specs.Replays.{states-after, states-along}
 
 pub write-more : (moves answers out more whole : List ℕ) (i : ℕ) → i < length moves → i < length answers →
     more ≡ out ++ (getD moves i 0 ∷ getD answers i 0 ∷ []) →
@@ -34,7 +34,7 @@ pub write-more : (moves answers out more whole : List ℕ) (i : ℕ) → i < len
     more ++ spelled (paired (drop (i + 1) moves) (drop (i + 1) answers)) ≡ whole
 write-more moves answers out more whole i l m pushed h =
     let d : out ++ (getD moves i 0 ∷ getD answers i 0 ∷ spelled (paired (drop (i + 1) moves) (drop (i + 1) answers))) ≡ whole =
-        rw add-one (rw (drop-cons moves i 0 l, drop-cons answers i 0 m) at h) in
+    rw add-one (rw (drop-cons moves i 0 l, drop-cons answers i 0 m) at h) in
     rw (pushed, append-assoc) d
 
 unpaired : (moves : List ℕ) → paired moves [] ≡ []
@@ -51,8 +51,8 @@ pub write-end : (moves answers out whole : List ℕ) (i : ℕ) → i ≡ min (le
 write-end moves answers out whole i e h =
     let few = one-ended (length moves) (length answers) i (ltb (length moves) (length answers)) refl e in
     let none : paired (drop i moves) (drop i answers) ≡ [] =
-        ⊎-elim (λ l. ap (λ t. paired t (drop i answers)) (drop-all i moves l))
-        (λ l. ap (paired (drop i moves)) (drop-all i answers l) ∙ unpaired (drop i moves)) few in
+    ⊎-elim (λ l. ap (λ t. paired t (drop i answers)) (drop-all i moves l))
+    (λ l. ap (paired (drop i moves)) (drop-all i answers l) ∙ unpaired (drop i moves)) few in
     sym (append-nil out) ∙ rw none at h
 
 pub paired-taken : (moves answers : List ℕ) → paired (take (length answers) moves) answers ≡ paired moves answers

@@ -2,13 +2,13 @@
 --   first-step  the first step of a row of bytes
 --   no-step     a row without one
 --   replay-more  one turn of the replay
-use mathlib.Core.Path.{_≡_, refl, sym, ap, _∙_}
+use mathlib.Core.Path.{_≡_, refl}
 use mathlib.Core.List.{List, [], _∷_, _++_, append-assoc}
 use Prim.Native.Nat.{ℕ, _≤_, _<_}
 use native.Mathlib.Omega.{arith}
 use lib.ListN.{length, drop, getD}
 use Rattle.game.specs.Game.{Game}
-use Rattle.play.specs.Logs.{Step, steps-in}
+use Rattle.play.specs.Logs.{steps-in}
 use Rattle.play.specs.Replays.{states-after}
 
 pub first-step : (bs rest : List ℕ) → 2 ≤ length bs → rest ≡ drop 2 bs →
@@ -28,5 +28,5 @@ pub replay-more : (g : Game) (states more : List ℕ) (s t : ℕ) (bs rest whole
     states ++ states-after g s (steps-in bs) ≡ whole → more ++ states-after g t (steps-in rest) ≡ whole
 replay-more g states more s t bs rest whole two e at pushed h =
     let d : states ++ (t ∷ states-after g t (steps-in rest)) ≡ whole =
-        rw (at) (rw (first-step bs rest two e) at h) in
+    rw (at) (rw (first-step bs rest two e) at h) in
     rw (pushed, append-assoc) d

@@ -3,7 +3,7 @@
 --   whole-steps             the bytes of whole steps
 --   shaped                  the bytes of a log have a start and no half step
 --   read-again, read-written  the same for a whole log, as the reader takes it apart
-use mathlib.Core.Path.{_≡_, refl, sym, ap, _∙_}
+use mathlib.Core.Path.{_≡_, refl, ap, _∙_}
 use mathlib.Core.Bool.{Bool, true, false, _||_}
 use mathlib.Core.List.{List, [], _∷_, _++_, append-assoc}
 use Prim.Native.Nat.{ℕ, suc, _+_, _*_, _-_, _/_, _%_, _≤_, _<_}

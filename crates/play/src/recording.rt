@@ -30,7 +30,11 @@ fn write_steps(moves: &[u8], answers: &[u8], out: &mut Vec<u8>) -> Result<(), Al
 }
 
 // Runs the controller over a row of moves, up to the first refusal, and writes the log of it.
-pub fn record<'a>(mut controller: Controller<'a>, moves: &[u8], heap: Global) -> Result<Recording<'a>, AllocError>
+pub fn record<'a>(
+    mut controller: Controller<'a>,
+    moves: &[u8],
+    heap: Global,
+) -> Result<Recording<'a>, AllocError>
     ensures { λ r. ⌜ made r (Recorded (controller .entry) (now (moves .entry))) ⌝ }
 {
     let begun = Log {
@@ -41,5 +45,9 @@ pub fn record<'a>(mut controller: Controller<'a>, moves: &[u8], heap: Global) ->
     let mut log = Vec::new(heap);
     begun.write(&mut log)?;
     write_steps(moves, ran.answers.as_slice(), &mut log)?;
-    Ok(Recording { controller, ran, log })
+    Ok(Recording {
+        controller,
+        ran,
+        log,
+    })
 }
