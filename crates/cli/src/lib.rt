@@ -1,4 +1,4 @@
-// What the programs share: their arguments, files read up to a limit, and the ways to end badly.
+// What the programs share: their arguments, files read up to a limit and written whole, and the ways to end badly.
 ghost use mathlib.Core.Path.{_≡_};
 ghost use mathlib.Core.Bool.{true};
 ghost use Rattle.std.specs.Results.{isErr};
@@ -9,6 +9,7 @@ use std::fs;
 use std::fs::File;
 use std::io;
 use std::io::Read;
+use std::io::Write;
 
 // The arguments after the program's own name.
 pub fn words(rt: &LibcRuntime) -> io::Result<Vec<String>> {
@@ -42,26 +43,34 @@ pub fn load(rt: &LibcRuntime, program: &str, path: &str, most: u64) -> Result<Ve
     }
 }
 
-// Writes the bytes under another name, which then takes the place of the file: so the file is written whole or not at all.
-fn replace(rt: &LibcRuntime, path: &str, bytes: &[u8]) -> io::Result<()> {
+// Writes the bytes under the name `part`, which then becomes the file's own.
+fn write_part(rt: &LibcRuntime, part: &str, path: &str, bytes: &[u8]) -> io::Result<()> {
+    let mut file = File::create(rt, part)?;
+    file.write_all(bytes)?;
+    file.sync_all()?;
+    fs::rename(rt, part, path)
+}
+
+// Writes a file whole or not at all: first under another name in the same folder, which goes again where that fails.
+pub fn save_whole(rt: &LibcRuntime, path: &str, bytes: &[u8]) -> io::Result<()> {
     let part = format!(rt.alloc(), "{path}.part")?;
-    if let Err(error) = fs::write(rt, part.as_str(), bytes) {
+    let done = write_part(rt, part.as_str(), path, bytes);
+    if done.is_err() {
         let _ = fs::remove_file(rt, part.as_str());
-        return Err(error);
     }
-    fs::rename(rt, part.as_str(), path)
+    done
 }
 
 // The same, and where it fails a line that says which file and what to do.
 pub fn save(rt: &LibcRuntime, program: &str, path: &str, bytes: &[u8]) -> Result<(), AnyError> {
-    match replace(rt, path, bytes) {
+    match save_whole(rt, path, bytes) {
         Ok(()) => Ok(()),
         Err(error) => {
             eprintln!(
                 rt,
                 "{program}: cannot write {path}: {error}; name a file in a folder that may be written"
             )?;
-            Err("unwritten".into())
+            Err("unwritable".into())
         }
     }
 }

@@ -1,0 +1,5 @@
+pub mod Steps
+pub mod Runs
+pub mod Outcomes
+pub mod Ready
+pub mod Theorems
