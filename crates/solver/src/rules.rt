@@ -2,10 +2,8 @@
 ghost use mathlib.Core.Path.{_≡_};
 ghost use Rattle.game.specs.Content.{Valid, content};
 ghost use Rattle.solver.specs.Call.{lent};
-ghost use Rattle.solver.specs.Rules.{AllFits, Lacks, Read-call, Rules-call, Solves-rules, all-lent, refused-lent};
+ghost use Rattle.solver.specs.Rules.{AllFits, Read-call, Rules-call, Solves-rules, all-lent, refused-lent};
 ghost use Rattle.solver.specs.Sizes.{sizes-from, sizes-of};
-ghost use Rattle.std.specs.Options.{Cases as BySome};
-ghost use Rattle.std.specs.Orderings.{Decides};
 use super::memory::Short;
 use super::memory::Table;
 use super::memory::Way;
