@@ -1,5 +1,6 @@
 -- An accepted table, and a start of the rules, make a controller that is ready.
 --   some-goal  where a state is known for goal 0 there is a goal
+--   whole      bytes that are as many as they should be are read
 --   ready      from what was accepted to what is promised
 use mathlib.Core.Path.{_≡_, refl, sym, ap, subst, _∙_}
 use mathlib.Core.Bool.{Bool, true, false, cond, _&&_}
@@ -9,7 +10,9 @@ use native.Mathlib.Omega.{arith}
 use denote.Ref.{now}
 use lib.Dec.{ltb}
 use lib.ListN.{length, getD}
-use borrow.Author.Tests.{ltb-true}
+use borrow.Author.Tests.{ltb-true, le-ltb}
+use Rattle.std.specs.declared.option.Option.the-variants.{Some, None}
+use Rattle.game.specs.declared.refusal.Refusal.{Refusal}
 use Rattle.game.specs.declared.rules.Rules.{Rules}
 use Rattle.game.specs.Plan.{PlanHolds}
 use Rattle.game.specs.Play.{Now, now-after}
@@ -18,7 +21,7 @@ use Rattle.game.specs.Content.{content}
 use Rattle.game.specs.Meaning.{game-of}
 use Rattle.game.proofs.Appending.{starts-count}
 use Rattle.rows.specs.declared.row.Grid.{Grid}
-use Rattle.rows.specs.Rows.{pair-at, row-at}
+use Rattle.rows.specs.Rows.{pair-at, row-at, missized}
 use Rattle.rows.proofs.Fitting.{nth-start}
 use Rattle.table.specs.Plans.{Sheet, sheet-of, sheet-for, plan-of, known-in, grid-for}
 use Rattle.table.specs.Sound.{Accepts}
@@ -33,6 +36,12 @@ in-group false d row h = h
 pub some-goal : (g : Grid) (bs : List ℕ) (s : ℕ) → known-in (row-at g bs 0 s) ≡ true → 0 < g .groups
 unfolding row-at
 some-goal g bs s h = ltb-true 0 (g .groups) (in-group (ltb 0 (g .groups)) (ltb s (g .each)) _ h)
+
+pub whole : (n : ℕ) (bs : List ℕ) (e : Refusal) → length bs ≡ n → missized n bs ≡ Some e → ⊥
+whole n bs e l h =
+    let no : missized n bs ≡ None = rw (l, le-ltb n n (omega arith)) in
+    let z : _≡_ {A = ℕ} 0 1 = cc in
+    omega arith
 
 pub ready : (rules : Rules) (bs : List ℕ) (k state : ℕ) (c : Controller) → k < rules .starts .count →
     Accepts (content rules) bs → c .rules ≡ rules → sheet-of (c .table) ≡ sheet-for (content rules) bs →

@@ -1,7 +1,6 @@
 // The way to a controller that may run: its table was accepted.
 ghost use Prim.Native.Nat.{_<_};
-ghost use Rattle.std.specs.Vec.{made};
-ghost use Rattle.controller.specs.Ready.{Ready};
+ghost use Rattle.controller.specs.Ready.{Readies};
 use crate::Controller;
 use game::refusal::Refusal;
 use game::rules::Rules;
@@ -13,7 +12,7 @@ impl<'a> Controller<'a> {
     // A controller at a start of the rules, by its number, with the table that fills the bytes; or why the table is refused.
     pub fn accepted(rules: Rules<'a>, bytes: &'a [u8], start: u8) -> Result<Controller<'a>, Refusal>
         requires { ⌜ start < rules .starts .count ⌝ }
-        ensures { λ r. ⌜ made r (Ready (rules .entry) (now (bytes .entry)) start) ⌝ }
+        ensures { λ r. ⌜ Readies (rules .entry) (now (bytes .entry)) start r ⌝ }
     {
         accept(&rules, bytes)?;
         let table = Table::read(&rules, bytes)?;

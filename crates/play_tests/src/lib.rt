@@ -2,7 +2,7 @@
 #[cfg(test)]
 mod tests {
     use controller::Controller;
-    use game::refusal::Refusal;
+    use game::refusal::RefusalDebug;
     use game::rules::Rules;
     use play::log::Log;
     use play::recording::record;
