@@ -30,7 +30,7 @@ use Rattle.counter.specs.Ways.{grid-for, known-in, avoid-in, counterstrategy-o
 abbrev pub answer-sound : Content → Counterstrategy → ℕ → ℕ → ℕ → Bool
 answer-sound c w i s a = implies (game-of c .allowed s (w .move i s) a) (counter-step (game-of c) w i s a)
 
--- the row of promise i and state s: the move is legal, so that it has no bit too many, and the steps are fine
+-- the row of promise i and state s: the move is legal, and the step of each answer is fine
 abbrev pub row-sound : Content → Counterstrategy → ℕ → ℕ → Bool
 row-sound c w i s = game-of c .moves s (w .move i s) && all (2 ^ c .answer) (answer-sound c w i s)
 
@@ -38,11 +38,12 @@ row-sound c w i s = game-of c .moves s (w .move i s) && all (2 ^ c .answer) (ans
 abbrev pub rows-sound : Content → Counterstrategy → ℕ → Bool
 rows-sound c w s = all (turns (length (c .promises))) (λ i. row-sound c w i s)
 
--- in a known row the goal kept away from is one of those that there are
+-- the first byte is 0 or 1; in a known row the goal kept away from is one of those that there are. That the moves have no
+-- bit too many follows from their being legal.
 abbrev pub row-in-range : Content → List ℕ → Bool
 row-in-range c row = ltb (getD row 0 0) 2 && implies (known-in row) (ltb (avoid-in row) (length (c .goals)))
 
--- the first byte is 0 or 1, and in a known state the row is in range and the rows of all promises are sound
+-- the row is in range and, where it is known, the rows of all promises gone for are sound
 abbrev pub state-sound : Content → Grid → List ℕ → ℕ → Bool
 state-sound c g bs s =
     row-in-range c (row-at g bs 0 s) && implies (known-in (row-at g bs 0 s)) (rows-sound c (counterstrategy-of g bs) s)

@@ -1,4 +1,10 @@
--- The first number at which a test fails: one step of a loop, its end, and what there being none means.
+-- Loops that test number after number, as the code makes them, and the verdicts that they come to.
+--   none-more, found, none-all, all-none   the first number at which a test fails: a step, the stop, and what none means
+--   all-more, all-fails, all-end, all-stop, each   a test of each number below a bound
+--   count-more, count-same                 a count
+--   at-start, at-end, decides-verdict, sized       which verdict it is, and when it is acceptance
+--   below, not-below, guard-then, guard-else       comparisons in the code
+--   under, implied, implies-by, and-assoc  tests that are asked only where another is true
 use mathlib.Core.Path.{_≡_, refl, sym, ap, _∙_}
 use mathlib.Core.Bool.{Bool, true, false, cond, _&&_}
 use mathlib.Core.Logic.{_⊎_, inl, inr, ⊎-elim}

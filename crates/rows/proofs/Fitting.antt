@@ -1,4 +1,7 @@
--- Rows in a machine's numbers: their places fit, what the code cuts out is the row, and a start stands where it is read.
+-- Rows in a machine's numbers.
+--   rows-fit, row-fits, few    places and counts fit
+--   no-row, cut-row, row-is    what the code cuts out is the row; a row that holds something is one of the grid's
+--   nth-start, no-start, length-starts, length-formulas   starts stand where they are read, and there are as many as counted
 use mathlib.Core.Path.{_≡_, refl, sym, ap, _∙_}
 use mathlib.Core.Bool.{Bool, true, false, cond, _&&_}
 use mathlib.Core.Logic.{_⊎_, ⊎-elim}
