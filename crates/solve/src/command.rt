@@ -1,12 +1,14 @@
 // What the words of a command line ask for.
 
 // The rules file, and where to write the table and the way, if anywhere.
+#[derive(Clone, Copy)]
 pub struct Task<'a> {
     pub rules: &'a str,
     pub table: Option<&'a str>,
     pub way: Option<&'a str>,
 }
 
+#[derive(Clone, Copy)]
 pub enum Command<'a> {
     Solve(Task<'a>),
     Help,
@@ -24,7 +26,7 @@ impl<'a> Command<'a> {
         }
         let mut task = Task { rules: words[0].as_str(), table: None, way: None };
         let mut at = 1;
-        while at + 1 < words.len() {
+        while at < words.len() && words.len() - at >= 2 {
             match words[at].as_str() {
                 "--table" => task.table = Some(words[at + 1].as_str()),
                 "--way" => task.way = Some(words[at + 1].as_str()),

@@ -1,7 +1,7 @@
 // The bytes of a table file and of a way file, from what the solver wrote.
 use counter::laws::write_head;
 use counter::laws::write_turn;
-use solver::rules::Needs;
+use solver::needs::Needs;
 use std::alloc::AllocError;
 use std::alloc::Global;
 use table::laws::write_row;

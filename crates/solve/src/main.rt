@@ -5,18 +5,15 @@ use command::Command;
 use command::Task;
 use files::table_file;
 use files::way_file;
-use game::refusal::Refusal;
 use game::rules::MOST_FILE;
 use game::rules::Rules;
 use solver::memory::Outcome;
 use solver::memory::Table;
 use solver::memory::Way;
-use solver::rules::Needs;
+use solver::needs::Needs;
 use solver::rules::Tables;
 use solver::rules::solve_rules;
 use solver::solve::outcome;
-use std::alloc::AllocError;
-use std::alloc::Global;
 use std::error::AnyError;
 
 const USAGE: &str = "solve RULES [--table FILE] [--way FILE]";
@@ -75,7 +72,7 @@ fn report(
     Ok(())
 }
 
-// Solves the game of the rules, prints who wins, and writes the files that are asked for.
+// Solves the game of the rules, prints who wins, and writes the files that are asked for. All memory is owned here and lent.
 fn solve(rt: &LibcRuntime, task: Task<'_>) -> Result<(), AnyError> {
     let heap = rt.alloc();
     let file = cli::load(rt, "solve", task.rules, MOST_FILE)?;
@@ -84,6 +81,12 @@ fn solve(rt: &LibcRuntime, task: Task<'_>) -> Result<(), AnyError> {
         Err(refusal) => return cli::refused(rt, refusal),
     };
     let needs = Needs::of(&rules);
+    let mut legal = vec![in heap; 0u64; needs.states]?;
+    let mut allowed = vec![in heap; 0u64; needs.steps()]?;
+    let mut next = vec![in heap; 0u16; needs.nexts()]?;
+    let mut promises = vec![in heap; 0u8; needs.states]?;
+    let mut goals = vec![in heap; 0u8; needs.states]?;
+    let mut sets = vec![in heap; 0u8; needs.sets()]?;
     let mut known = vec![in heap; 0u8; needs.states]?;
     let mut answers = vec![in heap; 0u8; needs.replies()]?;
     let mut ranks = vec![in heap; 0u16; needs.entries()]?;
@@ -92,45 +95,21 @@ fn solve(rt: &LibcRuntime, task: Task<'_>) -> Result<(), AnyError> {
     let mut avoids = vec![in heap; 0u8; needs.states]?;
     let mut moves = vec![in heap; 0u8; needs.rows()]?;
     let mut turns = vec![in heap; 0u16; needs.rows()]?;
+    let arena = Tables { legal: &mut legal, allowed: &mut allowed, next: &mut next, promises: &mut promises, goals: &mut goals };
     let table = Table { known: &mut known, answers: &mut answers, ranks: &mut ranks, waits: &mut waits };
     let way = Way { layers: &mut layers, avoids: &mut avoids, moves: &mut moves, ranks: &mut turns };
-    match run(heap, &file, needs, table, way)? {
-        Ok(rounds) => report(rt, &rules, &known, &layers, rounds)?,
+    let rounds = match solve_rules(&file, arena, &mut sets, table, way) {
+        Ok(rounds) => rounds,
         Err(refusal) => return cli::refused(rt, refusal),
-    }
+    };
+    report(rt, &rules, &known, &layers, rounds)?;
     if let Some(path) = task.table {
-        let bytes = table_file(heap, needs, &known, &answers, &ranks, &waits)?;
-        cli::save(rt, "solve", path, &bytes)?;
+        cli::save(rt, "solve", path, &table_file(heap, needs, &known, &answers, &ranks, &waits)?)?;
     }
     if let Some(path) = task.way {
-        let bytes = way_file(heap, needs, &known, &layers, &avoids, &moves, &turns)?;
-        cli::save(rt, "solve", path, &bytes)?;
+        cli::save(rt, "solve", path, &way_file(heap, needs, &known, &layers, &avoids, &moves, &turns)?)?;
     }
     Ok(())
-}
-
-// Lends the solver the memory that only it needs, and solves.
-fn run(
-    heap: Global,
-    file: &[u8],
-    needs: Needs,
-    table: Table<'_>,
-    way: Way<'_>,
-) -> Result<Result<u32, Refusal>, AllocError> {
-    let mut legal = vec![in heap; 0u64; needs.states]?;
-    let mut allowed = vec![in heap; 0u64; needs.steps()]?;
-    let mut next = vec![in heap; 0u16; needs.nexts()]?;
-    let mut promises = vec![in heap; 0u8; needs.states]?;
-    let mut goals = vec![in heap; 0u8; needs.states]?;
-    let mut sets = vec![in heap; 0u8; needs.sets()]?;
-    let arena = Tables {
-        legal: &mut legal,
-        allowed: &mut allowed,
-        next: &mut next,
-        promises: &mut promises,
-        goals: &mut goals,
-    };
-    Ok(solve_rules(file, arena, &mut sets, table, way))
 }
 
 fn main(rt: LibcRuntime) -> Result<(), AnyError> {
