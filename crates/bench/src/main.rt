@@ -1,4 +1,6 @@
 // bench --time: how long the 64-lane values of a 50-byte formula take. It prints no time unless asked, so that its run can be compared.
+#![tactic(auto)]
+
 use formula::Formula;
 use formula::lanes::Block;
 use std::env;

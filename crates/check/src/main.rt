@@ -1,4 +1,6 @@
 // The program `check`: whether a table, or a counterstrategy, holds together for the rules of a game and knows every start.
+#![tactic(auto)]
+
 mod command;
 mod judged;
 

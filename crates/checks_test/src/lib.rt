@@ -1,4 +1,6 @@
 // Tables and counterstrategies made by hand, accepted, and then with one byte changed so that each condition fails in turn.
+#![tactic(auto)]
+
 use game::refusal::Refusal;
 use game::rules::Rules;
 use rows::judge::Accepted;

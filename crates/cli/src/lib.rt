@@ -1,4 +1,6 @@
 // What the programs share: their arguments, files read up to a limit and written whole, and the ways to end badly.
+#![tactic(auto)]
+
 ghost use Rattle.std.specs.Prelude.{◌≡◌, true, is_err};
 
 use anyhow::anyhow;

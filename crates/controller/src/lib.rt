@@ -1,4 +1,6 @@
 // The running controller: it holds the state and the goal gone for, and gives the table's answer to each move.
+#![tactic(auto)]
+
 ghost use Rattle.std.specs.Prelude.{◌≡◌, [], IfOk};
 ghost use Rattle.game.specs.Game.{goal_after};
 ghost use Rattle.game.specs.Play.{now_after};

@@ -1,4 +1,6 @@
 // Counterstrategies: for each state, whether it is known, a layer, the goal kept away from, and for each promise gone for a move and a rank.
+#![tactic(auto)]
+
 ghost use Rattle.std.specs.Prelude.{◌≡◌, true, is_ok, Decides};
 ghost use Rattle.game.specs.Content.{content};
 ghost use Rattle.game.specs.Counterstrategy.{turns};

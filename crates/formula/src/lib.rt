@@ -1,4 +1,6 @@
 // Formulas over the bits of a state, a move and an answer: a row of bytes, each operator before its operands.
+#![tactic(auto)]
+
 ghost use Rattle.std.specs.Prelude.{◌≡◌, ◌≤◌, true, ◌++◌, length, is_ok, if◌then◌else◌};
 ghost use Rattle.formula.specs.Trees.{Tree, meaning, written, Fits};
 ghost use Rattle.formula.specs.Reading.{formula_of};
@@ -44,7 +46,7 @@ impl<'a> Formula<'a> {
 
     // The values in the steps of the lanes, one bit each.
     pub fn values<L: Lanes>(self, lanes: &L) -> u64
-        ensures { Values (formula_of self.entry.bytes.now) (states lanes.now) (moves lanes.now) (answers lanes.now) result }
+        ensures { Values (formula_of self.entry.bytes.now) (L.states lanes.now) (L.moves lanes.now) (L.answers lanes.now) result }
     {
         let (word, _) = values::first(self.bytes, lanes);
         word

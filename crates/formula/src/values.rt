@@ -6,7 +6,7 @@ use crate::symbol::Symbol;
 
 // The values of the first formula in the row, and what is left of the row after it.
 pub(crate) fn first<'a, L: Lanes>(bytes: &'a [u8], lanes: &L) -> (u64, &'a [u8])
-    ensures { Valued bytes.now result.1.now (states lanes.now) (moves lanes.now) (answers lanes.now) result.0 }
+    ensures { Valued bytes.now result.1.now (L.states lanes.now) (L.moves lanes.now) (L.answers lanes.now) result.0 }
 {
     let [byte, rest @ ..] = bytes else {
         return (0, bytes);

@@ -1,4 +1,6 @@
 // Games, plays and winning: what the rules of a game mean, and the theorems that everything above rests on.
+#![tactic(auto)]
+
 pub mod agree;
 mod reader;
 pub mod refusal;

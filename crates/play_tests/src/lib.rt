@@ -1,4 +1,6 @@
 // The running controller by hand: what is refused leaves everything as it was, and a log replays.
+#![tactic(auto)]
+
 #[cfg(test)]
 mod tests {
     use controller::Controller;

@@ -1,4 +1,6 @@
 // Rules files by hand: one that is read, and for each refusal files that show its number and place.
+#![tactic(auto)]
+
 #[cfg(test)]
 mod tests {
     use game::rules::Rules;

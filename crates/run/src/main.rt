@@ -1,4 +1,6 @@
 // run RULES TABLE: runs the controller of a table that was accepted.
+#![tactic(auto)]
+
 mod input;
 mod order;
 

@@ -1,4 +1,6 @@
 // The program `solve`: who wins the game of a rules file from each start, with a table for the controller and a way for the environment.
+#![tactic(auto)]
+
 mod command;
 mod files;
 

@@ -1,5 +1,7 @@
 // The solver: three nested fixpoints give the winning region of a game, and ranks, turns and layers from which a table
 // with reasons for the controller and a counterstrategy for the environment are read off.
+#![tactic(auto)]
+
 mod answers;
 mod inner;
 pub mod memory;

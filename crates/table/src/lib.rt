@@ -1,4 +1,6 @@
 // Tables with reasons: for each goal gone for and each state, whether it is known, the answers, a rank, and the promise waited for.
+#![tactic(auto)]
+
 ghost use Rattle.std.specs.Prelude.{◌≡◌, true, is_ok, Decides};
 ghost use Rattle.game.specs.Content.{content};
 ghost use Rattle.table.specs.Plans.{Reads, sheet_of, plan_of, grid_for};

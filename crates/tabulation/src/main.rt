@@ -1,4 +1,6 @@
 // tabulation RULES [--time]: how much of a game is in its arena, and with --time how long it took to tabulate.
+#![tactic(auto)]
+
 ghost use Rattle.game.specs.Content.{Valid, content};
 
 use game::rules::{MOST_FILE, Rules};

@@ -19,7 +19,7 @@ returns-in-err-read c =
 
 pub returns : goal.returns
 returns c =
-    let whole : reading c.args.scope c.args.bytes.now ≡ Ok tt = sym c.in-ok-read.ensures in
+    let whole : reading c.args.scope c.args.bytes.now ≡ Ok tt = sym c.in_ok-read.ensures in
     record {
       outcome = (whole, refl);
       formed = λ _. read_written c.args.scope c.args.bytes.now whole;

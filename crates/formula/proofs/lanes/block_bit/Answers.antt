@@ -9,4 +9,4 @@ returns-then-i-lt6 c =
 
 pub returns-else-i-lt6 : goal.returns-else-i-lt6
 returns-else-i-lt6 c =
-    λ l h. c.same-bit.ensures l h ∙ sym (bit_of_block c.args.block l c.args.i h c.if-i-lt6.false)
+    λ l h. c.same_bit.ensures l h ∙ sym (bit_of_block c.args.block l c.args.i h c.if-i-lt6.false)
