@@ -11,8 +11,8 @@ use Rattle.table.proofs.accept.Goals as goal
 
 pub returns : goal.returns
 returns c =
-    let read = c.in-ok-table.ensures in
+    let read = c.in_ok-table.ensures in
     let v : c.verdict.result ≡ table_verdict (content c.args.rules.now) c.args.bytes.now =
-    judged (content c.args.rules.now) c.args.bytes.now (sheet_of c.in-ok-table.table) c.verdict.result read.0 read.1 c.verdict.ensures in
+    judged (content c.args.rules.now) c.args.bytes.now (sheet_of c.in_ok-table.table) c.verdict.result read.0 read.1 c.verdict.ensures in
     let p = promised (content c.args.rules.now) c.args.bytes.now c.verdict.result v in
     record { verdict = v; exactly = p.0; wins = p.1 }

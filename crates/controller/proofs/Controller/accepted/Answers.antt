@@ -7,19 +7,19 @@ use Rattle.controller.proofs.Controller.accepted.Goals as goal
 pub returns : goal.returns
 returns c =
     ready c.args.rules c.args.bytes.now c.args.start c.pair-state.result c.new.result c.requires
-    (c.in-ok-accept.ensures.exactly.0 refl)
+    (c.in_ok-accept.ensures.exactly.0 refl)
     c.new.ensures.rules
-    (ap sheet_of c.new.ensures.table ∙ c.in-ok-table.ensures.1)
+    (ap sheet_of c.new.ensures.table ∙ c.in_ok-table.ensures.1)
     c.pair-state.ensures
     c.new.ensures.place
 
-pub returns-in-err-accept : goal.returns-in-err-accept
-returns-in-err-accept c =
-    let p = err_from_is_err_and c.from-residual.result c.from-residual.ensures.1 in
-    rw (p.1, p.2) (sym c.in-err-accept.ensures.verdict)
+pub returns-in_err-accept : goal.returns-in_err-accept
+returns-in_err-accept c =
+    let p = err_from_is_err_and c.from_residual.result c.from_residual.ensures.1 in
+    rw (p.1, p.2) (sym c.in_err-accept.ensures.verdict)
 
 -- what was accepted has the length of a table
-pub returns-in-err-table : goal.returns-in-err-table
-returns-in-err-table c =
-    let accepts = c.in-ok-accept.ensures.exactly.0 refl in
-    absurd (whole _ c.args.bytes.now c.in-err-table.field-0.0 accepts.whole c.in-err-table.ensures)
+pub returns-in_err-table : goal.returns-in_err-table
+returns-in_err-table c =
+    let accepts = c.in_ok-accept.ensures.exactly.0 refl in
+    absurd (whole _ c.args.bytes.now c.in_err-table.field-0.0 accepts.whole c.in_err-table.ensures)

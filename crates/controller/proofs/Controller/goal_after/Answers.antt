@@ -15,19 +15,19 @@ returns-then-self-goals c =
           stays (game_in me) me.goal me.state
           (none (content me.rules).goals me.goal me.state (omega (arith, many, w.if-self-goals.true)))
       | then-self-goals-via-else-self-goals+then-not-goal-holds w ↦
-          stays (game_in me) me.goal me.state (sym w.goal-holds.ensures ∙ w.if-not-goal-holds.true)
+          stays (game_in me) me.goal me.state (sym w.goal_holds.ensures ∙ w.if-not-goal_holds.true)
     ]
 
 pub returns-then-next-goals : goal.returns-then-next-goals
 returns-then-next-goals c =
     let me = c.args.self.now in
     let many = formulas_count me.rules.goals.count me.rules.goals.bytes.now in
-    starts_again (game_in me) me.goal me.state (sym c.if-not-goal-holds.ensures)
+    starts_again (game_in me) me.goal me.state (sym c.if-not-goal_holds.ensures)
     (eq-eqb (me.goal + 1) (length (content me.rules).goals) (c.if-next-goals.true ∙ sym many))
 
 pub returns-else-next-goals : goal.returns-else-next-goals
 returns-else-next-goals c =
     let me = c.args.self.now in
     let many = formulas_count me.rules.goals.count me.rules.goals.bytes.now in
-    turns (game_in me) me.goal me.state (sym c.if-not-goal-holds.ensures)
+    turns (game_in me) me.goal me.state (sym c.if-not-goal_holds.ensures)
     (ne_eqb (me.goal + 1) (length (content me.rules).goals) (λ q. c.if-next-goals.false (q ∙ many)))

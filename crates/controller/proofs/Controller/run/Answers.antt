@@ -6,7 +6,7 @@ use Rattle.controller.proofs.Controller.run.Goals as goal
 pub loop-moved-init : goal.loop-moved-init
 unfolding Walks
 loop-moved-init c =
-    let new = c.in-ok-answers.ensures in
+    let new = c.in_ok-answers.ensures in
     ((refl, refl), rw new.items refl, new.len, new.capacity)
 
 pub returns-in-Err : goal.returns-in-Err
@@ -31,7 +31,7 @@ loop-moved-preserved c =
     let n = c.loop-moved.moved-index in
     let l : n < length c.args.moves.now = omega arith in
     let step = c.in-Ok.ensures in
-    let push = c.push-reserved.ensures in (
+    let push = c.push_reserved.ensures in (
       (step.same.0 ∙ inv.0.0, step.same.1 ∙ inv.0.1),
       rw push.items (run_more c.args.self.now c.args.moves.now c.loop-moved.self c.step.new.self (vec_items c.loop-moved.answers) n c.in-Ok.answer l inv.0 inv.1 step.steps),
       omega (arith, push.len, inv.2),

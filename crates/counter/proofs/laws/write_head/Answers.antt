@@ -14,5 +14,5 @@ returns c _ =
     let mark : c.if-known.push ≡ cond c.args.known 1 0 =
     elim c.if-known.branch [ then-known w ↦ w.push-is ∙ simp w.if-known.true | else-known w ↦ w.push-is ∙ simp w.if-known.false ] in
     appended _ _ _ _ _ c.args.known c.if-known.push c.args.layer c.args.avoid mark
-    c.in-ok-push.ensures.items c.in-ok-push-2.ensures.items
-    c.in-ok-push-3.ensures.items c.in-ok-push-4.ensures.items
+    c.in_ok-push.ensures.items c.in_ok-push-2.ensures.items
+    c.in_ok-push-3.ensures.items c.in_ok-push-4.ensures.items

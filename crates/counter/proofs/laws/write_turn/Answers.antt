@@ -11,4 +11,4 @@ appended xs x₁ x₂ x₃ moved rank a b c = rw (c, b, a) (simp append_assoc)
 pub returns : goal.returns
 returns c _ =
     appended _ _ _ _ c.args.moved c.args.rank
-    c.in-ok-push.ensures.items c.in-ok-push-2.ensures.items c.in-ok-push-3.ensures.items
+    c.in_ok-push.ensures.items c.in_ok-push-2.ensures.items c.in_ok-push-3.ensures.items

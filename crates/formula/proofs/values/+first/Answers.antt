@@ -10,8 +10,8 @@ use Rattle.formula.proofs.Masks.{ones_lanes}
 use Rattle.formula.proofs.Planted.{Begins, zero_lane, empty, leaf, one, two, not_lanes, and_lanes, or_lanes, same_lanes}
 use Rattle.formula.proofs.values.+first.Goals as goal
 
-pub returns-in-default : goal.returns-in-default
-returns-in-default g t c =
+pub returns-in_default : goal.returns-in_default
+returns-in_default g t c =
     empty c.args.bytes.now _ _ _ (grind (arith, nat_tests))
 
 pub returns-in-Constant-false : goal.returns-in-Constant-false
@@ -27,17 +27,17 @@ returns-in-Constant-true g t c =
 pub returns-in-State : goal.returns-in-State
 returns-in-State g t c =
     let h : Begins c.args.bytes.now (State c.in-State.i) = record { some = grind (arith, nat_tests); symbol = cc } in
-    leaf _ _ (state c.in-State.i) _ _ _ _ h (λ _. refl) c.state-bit.ensures
+    leaf _ _ (state c.in-State.i) _ _ _ _ h (λ _. refl) c.state_bit.ensures
 
 pub returns-in-Move : goal.returns-in-Move
 returns-in-Move g t c =
     let h : Begins c.args.bytes.now (Move c.in-Move.i) = record { some = grind (arith, nat_tests); symbol = cc } in
-    leaf _ _ (move c.in-Move.i) _ _ _ _ h (λ _. refl) c.move-bit.ensures
+    leaf _ _ (move c.in-Move.i) _ _ _ _ h (λ _. refl) c.move_bit.ensures
 
 pub returns-in-Answer : goal.returns-in-Answer
 returns-in-Answer g t c =
     let h : Begins c.args.bytes.now (Answer c.in-Answer.i) = record { some = grind (arith, nat_tests); symbol = cc } in
-    leaf _ _ (answer c.in-Answer.i) _ _ _ _ h (λ _. refl) c.answer-bit.ensures
+    leaf _ _ (answer c.in-Answer.i) _ _ _ _ h (λ _. refl) c.answer_bit.ensures
 
 pub returns-in-Unknown : goal.returns-in-Unknown
 returns-in-Unknown g t c =

@@ -7,6 +7,6 @@ pub returns : goal.returns
 returns c =
     let h : 0 < length c.args.bytes.now = grind (arith, nat_tests) in
     record {
-      first = c.split-at.ensures.front ∙ rw c.min.ensures (cut_first c.args.bytes.now h);
-      others = c.split-at.ensures.back ∙ rw c.min.ensures (cut_others c.args.bytes.now h);
+      first = c.split_at.ensures.front ∙ rw c.min.ensures (cut_first c.args.bytes.now h);
+      others = c.split_at.ensures.back ∙ rw c.min.ensures (cut_others c.args.bytes.now h);
     }

@@ -11,8 +11,8 @@ returns c =
     let short : min 255 (length bytes) ≡ len = omega (arith, c.min-len.ensures) in
     let front : take len bytes ≡ take 255 bytes = ap (λ n. take n bytes) (sym short) ∙ take_capped 255 bytes in
     let long : len ≡ length (take 255 bytes) = sym (length-take 255 bytes ∙ short) in
-    appended_as (vec_items c.args.out.now) (vec_items c.extend-from-slice.new.self) c.extend-from-slice.result
+    appended_as (vec_items c.args.out.now) (vec_items c.extend_from_slice.new.self) c.extend_from_slice.result
     (ap (λ n. n ∷ take len bytes) long ∙ ap (λ bs. length (take 255 bytes) ∷ bs) front)
-    (appended_more (vec_items c.args.out.now) (len ∷ []) (take len bytes) (vec_items c.extend-from-slice.new.self) c.extend-from-slice.result
-    (pushed (len ∷ []) refl c.in-ok-push.was c.push.ensures.items)
-    (appended_once (vec_items c.push.new.self) (vec_items c.extend-from-slice.new.self) (take len bytes) c.extend-from-slice.result c.extend-from-slice.ensures.items))
+    (appended_more (vec_items c.args.out.now) (len ∷ []) (take len bytes) (vec_items c.extend_from_slice.new.self) c.extend_from_slice.result
+    (pushed (len ∷ []) refl c.in_ok-push.was c.push.ensures.items)
+    (appended_once (vec_items c.push.new.self) (vec_items c.extend_from_slice.new.self) (take len bytes) c.extend_from_slice.result c.extend_from_slice.ensures.items))

@@ -8,6 +8,6 @@ pub returns : goal.returns
 returns c =
     rw (formulas_count c.args.section.count c.args.section.bytes.now)
     (appended_more (vec_items c.args.out.now) (c.args.section.count ∷ []) (with_lengths (formulas_of c.args.section.count c.args.section.bytes.now))
-    (vec_items c.write-formulas.new.out) c.write-formulas.result
-    (pushed (c.args.section.count ∷ []) refl c.in-ok-push.was c.push.ensures.items)
-    c.write-formulas.ensures)
+    (vec_items c.write_formulas.new.out) c.write_formulas.result
+    (pushed (c.args.section.count ∷ []) refl c.in_ok-push.was c.push.ensures.items)
+    c.write_formulas.ensures)

@@ -27,29 +27,29 @@ steps_in r = (
 abbrev formulas_in : Section → List (List ℕ)
 formulas_in s = formulas_of s.count s.bytes.now
 
-pub returns-in-err-write-steps : goal.returns-in-err-write-steps
-returns-in-err-write-steps c =
-    let p = err_from_is_err_and c.from-residual-in-err-write-steps.result c.from-residual-in-err-write-steps.ensures.1 in
-    let after = vec_items c.write-steps.new.out in
+pub returns-in_err-write_steps : goal.returns-in_err-write_steps
+returns-in_err-write_steps c =
+    let p = err_from_is_err_and c.from_residual-in_err-write_steps.result c.from_residual-in_err-write_steps.ensures.1 in
+    let after = vec_items c.write_steps.new.out in
     rw p.1
-    (longer_more (vec_items c.args.out.now) (widths_of c.args.rules.now) after c.in-ok-write-widths.ensures c.in-err-write-steps.ensures)
+    (longer_more (vec_items c.args.out.now) (widths_of c.args.rules.now) after c.in_ok-write_widths.ensures c.in_err-write_steps.ensures)
 
-pub returns-in-err-write-group : goal.returns-in-err-write-group
-returns-in-err-write-group c =
-    let p = err_from_is_err_and c.from-residual-in-err-write-group.result c.from-residual-in-err-write-group.ensures.1 in
-    let after = vec_items c.write-group.new.out in
+pub returns-in_err-write_group : goal.returns-in_err-write_group
+returns-in_err-write_group c =
+    let p = err_from_is_err_and c.from_residual-in_err-write_group.result c.from_residual-in_err-write_group.ensures.1 in
+    let after = vec_items c.write_group.new.out in
     rw p.1
-    (longer_more (vec_items c.args.out.now) (widths_of c.args.rules.now) after c.in-ok-write-widths.ensures
-    (longer_more (vec_items c.write-widths.new.out) (steps_bytes (steps_in c.args.rules.now)) after c.in-ok-write-steps.ensures c.in-err-write-group.ensures))
+    (longer_more (vec_items c.args.out.now) (widths_of c.args.rules.now) after c.in_ok-write_widths.ensures
+    (longer_more (vec_items c.write_widths.new.out) (steps_bytes (steps_in c.args.rules.now)) after c.in_ok-write_steps.ensures c.in_err-write_group.ensures))
 
-pub returns-in-err-write-group-2 : goal.returns-in-err-write-group-2
-returns-in-err-write-group-2 c =
-    let p = err_from_is_err_and c.from-residual-in-err-write-group-2.result c.from-residual-in-err-write-group-2.ensures.1 in
-    let after = vec_items c.write-group-2.new.out in
+pub returns-in_err-write_group-2 : goal.returns-in_err-write_group-2
+returns-in_err-write_group-2 c =
+    let p = err_from_is_err_and c.from_residual-in_err-write_group-2.result c.from_residual-in_err-write_group-2.ensures.1 in
+    let after = vec_items c.write_group-2.new.out in
     rw p.1
-    (longer_more (vec_items c.args.out.now) (widths_of c.args.rules.now) after c.in-ok-write-widths.ensures
-    (longer_more (vec_items c.write-widths.new.out) (steps_bytes (steps_in c.args.rules.now)) after c.in-ok-write-steps.ensures
-    (longer_more (vec_items c.write-steps.new.out) (group_bytes (formulas_in c.args.rules.now.promises)) after c.in-ok-write-group.ensures c.in-err-write-group-2.ensures)))
+    (longer_more (vec_items c.args.out.now) (widths_of c.args.rules.now) after c.in_ok-write_widths.ensures
+    (longer_more (vec_items c.write_widths.new.out) (steps_bytes (steps_in c.args.rules.now)) after c.in_ok-write_steps.ensures
+    (longer_more (vec_items c.write_steps.new.out) (group_bytes (formulas_in c.args.rules.now.promises)) after c.in_ok-write_group.ensures c.in_err-write_group-2.ensures)))
 
 pub returns : goal.returns
 returns c =
@@ -57,12 +57,12 @@ returns c =
     let promises = formulas_in rules.promises in
     let goals = formulas_in rules.goals in
     let starts = starts_of rules.starts.count rules.starts.bytes.now in
-    let after = vec_items c.write-start-group.new.out in
-    let r = c.write-start-group.result in
+    let after = vec_items c.write_start_group.new.out in
+    let r = c.write_start_group.result in
     let last = start_group_bytes starts in
     appended_as (vec_items c.args.out.now) after r (sym (file_parts (widths_in rules) (steps_in rules) promises goals starts))
-    (appended_more (vec_items c.args.out.now) (widths_of rules) (steps_bytes (steps_in rules) ++ (group_bytes promises ++ (group_bytes goals ++ last))) after r c.in-ok-write-widths.ensures
-    (appended_more (vec_items c.write-widths.new.out) (steps_bytes (steps_in rules)) (group_bytes promises ++ (group_bytes goals ++ last)) after r c.in-ok-write-steps.ensures
-    (appended_more (vec_items c.write-steps.new.out) (group_bytes promises) (group_bytes goals ++ last) after r c.in-ok-write-group.ensures
-    (appended_more (vec_items c.write-group.new.out) (group_bytes goals) last after r c.in-ok-write-group-2.ensures
-    c.write-start-group.ensures))))
+    (appended_more (vec_items c.args.out.now) (widths_of rules) (steps_bytes (steps_in rules) ++ (group_bytes promises ++ (group_bytes goals ++ last))) after r c.in_ok-write_widths.ensures
+    (appended_more (vec_items c.write_widths.new.out) (steps_bytes (steps_in rules)) (group_bytes promises ++ (group_bytes goals ++ last)) after r c.in_ok-write_steps.ensures
+    (appended_more (vec_items c.write_steps.new.out) (group_bytes promises) (group_bytes goals ++ last) after r c.in_ok-write_group.ensures
+    (appended_more (vec_items c.write_group.new.out) (group_bytes goals) last after r c.in_ok-write_group-2.ensures
+    c.write_start_group.ensures))))

@@ -8,6 +8,6 @@ pub returns : goal.returns
 returns c =
     rw (starts_count c.args.starts.count c.args.starts.bytes.now)
     (appended_more (vec_items c.args.out.now) (c.args.starts.count ∷ []) (two_bytes (starts_of c.args.starts.count c.args.starts.bytes.now))
-    (vec_items c.write-starts.new.out) c.write-starts.result
-    (pushed (c.args.starts.count ∷ []) refl c.in-ok-push.was c.push.ensures.items)
-    c.write-starts.ensures)
+    (vec_items c.write_starts.new.out) c.write_starts.result
+    (pushed (c.args.starts.count ∷ []) refl c.in_ok-push.was c.push.ensures.items)
+    c.write_starts.ensures)

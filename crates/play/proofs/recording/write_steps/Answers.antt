@@ -10,8 +10,8 @@ loop-i-preserved c =
     let i = c.loop-i.i in
     let l : i < length moves = omega (arith, c.min-i-end.ensures) in
     let m : i < length answers = omega (arith, c.min-i-end.ensures) in
-    write_more moves answers (vec_items c.loop-i.out) (vec_items c.extend-from-slice.new.self) _ i l m
-    (pushed (get_or moves i 0 ∷ get_or answers i 0 ∷ []) refl c.in-ok-extend-from-slice.was c.extend-from-slice.ensures.items)
+    write_more moves answers (vec_items c.loop-i.out) (vec_items c.extend_from_slice.new.self) _ i l m
+    (pushed (get_or moves i 0 ∷ get_or answers i 0 ∷ []) refl c.in_ok-extend_from_slice.was c.extend_from_slice.ensures.items)
     c.loop-i.invariant
 
 pub returns : goal.returns

@@ -3,11 +3,11 @@ use Rattle.formula.specs.Bits.{bit}
 use Rattle.rows.proofs.Words.{bytes_from, column_none, column_more, column_fits}
 use Rattle.rows.proofs.lanes.column.Goals as goal
 
-pub overflow-add-word : goal.overflow-add-word
-overflow-add-word c = omega (arith, column_fits _ _ _ c.loop-l.l c.loop-l-test.true c.loop-l.invariant, c.digit.ensures)
+pub overflow_add-word : goal.overflow_add-word
+overflow_add-word c = omega (arith, column_fits _ _ _ c.loop-l.l c.loop-l-test.true c.loop-l.invariant, c.digit.ensures)
 
-pub overflow-mul-word : goal.overflow-mul-word
-overflow-mul-word c = omega (arith, column_fits _ _ _ c.loop-l.l c.loop-l-test.true c.loop-l.invariant)
+pub overflow_mul-word : goal.overflow_mul-word
+overflow_mul-word c = omega (arith, column_fits _ _ _ c.loop-l.l c.loop-l-test.true c.loop-l.invariant)
 
 pub loop-l-init : goal.loop-l-init
 loop-l-init c = column_none (bytes_from c.args.row.bytes.now c.args.from) c.args.i

@@ -7,7 +7,7 @@ pub returns-then-step-moves : goal.returns-then-step-moves
 returns-then-step-moves c =
     let r = c.args.rules.now in
     allowed_word c.args.step.state (2 ^ min r.widths.state 12) c.args.step.moved (2 ^ min r.widths.moves 6) (2 ^ min r.widths.answer 6)
-    c.values.result c.first-lanes.result
+    c.values.result c.first_lanes.result
     (λ a. value_of r.steps.answers.bytes.now c.args.step.state c.args.step.moved a)
     (omega (arith, c.states.ensures, c.if-step-states.true)) (omega (arith, c.moves.ensures, c.if-step-moves.true))
-    c.values.ensures c.first-lanes.ensures
+    c.values.ensures c.first_lanes.ensures

@@ -5,11 +5,11 @@ use Rattle.sets.proofs.packed.double.Goals as goal
 pub loop-q-init : goal.loop-q-init
 loop-q-init c = half_none _ _
 
-pub overflow-mul-packed : goal.overflow-mul-packed
-overflow-mul-packed c = omega (arith, c.requires.fits c.loop-q.q (omega arith), c.loop-q.invariant.left c.loop-q.q (omega arith))
+pub overflow_mul-packed : goal.overflow_mul-packed
+overflow_mul-packed c = omega (arith, c.requires.fits c.loop-q.q (omega arith), c.loop-q.invariant.left c.loop-q.q (omega arith))
 
-pub overflow-add-packed : goal.overflow-add-packed
-overflow-add-packed c =
+pub overflow_add-packed : goal.overflow_add-packed
+overflow_add-packed c =
     omega (arith, c.requires.fits c.loop-q.q (omega arith), c.loop-q.invariant.left c.loop-q.q (omega arith), c.apart.ensures)
 
 pub loop-q-preserved : goal.loop-q-preserved

@@ -6,8 +6,8 @@ use Rattle.sets.proofs.tabulate.states_after.Goals as goal
 
 pub loop-a-preserved : goal.loop-a-preserved
 loop-a-preserved c =
-    entry_more (λ k x. x ≡ field (get_or c.spell.new.packed (k / 4) 0) (k % 4)) c.loop-a.row c.loop-a.a c.field-of.result
-    (omega arith) c.loop-a.invariant c.field-of.ensures
+    entry_more (λ k x. x ≡ field (get_or c.spell.new.packed (k / 4) 0) (k % 4)) c.loop-a.row c.loop-a.a c.field_of.result
+    (omega arith) c.loop-a.invariant c.field_of.ensures
 
 pub returns : goal.returns
 returns c a h =

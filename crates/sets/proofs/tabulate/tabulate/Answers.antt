@@ -7,18 +7,18 @@ use Rattle.sets.proofs.Tables.{most_states, most_moves}
 use Rattle.sets.proofs.tabulate.tabulate.Goals as goal
 
 -- the facts of the arena's sizes and tables, in the order of its fields
-pub invariant-of-result : goal.invariant-of-result
-invariant-of-result c =
+pub invariant_of-result : goal.invariant_of-result
+invariant_of-result c =
     let r = c.args.rules.now in
     let promises : length (content r).promises ≡ r.promises.count = formulas_length r.promises.count r.promises.bytes.now in
     let goals : length (content r).goals ≡ r.goals.count = formulas_length r.goals.count r.goals.bytes.now in
     let v = c.requires.sound in
     let t =
     filled (content r) c.args.legal.now c.args.allowed.now c.args.next.now c.args.promises.now c.args.goals.now
-    c.tabulate-legal.new.legal c.tabulate-allowed.new.allowed c.tabulate-next.new.next c.tabulate-states.new.table c.tabulate-states-2.new.table
+    c.tabulate_legal.new.legal c.tabulate_allowed.new.allowed c.tabulate_next.new.next c.tabulate_states.new.table c.tabulate_states-2.new.table
     c.requires.sound c.requires.room
-    c.tabulate-legal.auto.legal c.tabulate-allowed.auto.allowed c.tabulate-next.auto.next c.tabulate-states.auto.table c.tabulate-states-2.auto.table
-    c.tabulate-legal.ensures c.tabulate-allowed.ensures c.tabulate-next.ensures c.tabulate-states.ensures c.tabulate-states-2.ensures in
+    c.tabulate_legal.auto.legal c.tabulate_allowed.auto.allowed c.tabulate_next.auto.next c.tabulate_states.auto.table c.tabulate_states-2.auto.table
+    c.tabulate_legal.ensures c.tabulate_allowed.ensures c.tabulate_next.ensures c.tabulate_states.ensures c.tabulate_states-2.ensures in
     let z = t.0 in (
       subst (λ n. 0 < n) (sym c.states.ensures) (pow_pos (min r.widths.state 12)),
       (
@@ -44,7 +44,7 @@ invariant-of-result c =
                           (
                             z.goals-size ∙ sym c.states.ensures,
                             (
-                              λ k. subst (λ n. get_or c.tabulate-next.new.next k 0 < n) (sym c.states.ensures) (next_within (content r) _ _ _ _ _ v z.next-size t.1 k),
+                              λ k. subst (λ n. get_or c.tabulate_next.new.next k 0 < n) (sym c.states.ensures) (next_within (content r) _ _ _ _ _ v z.next-size t.1 k),
                               tt,
                             ),
                           ),
@@ -65,10 +65,10 @@ returns c =
     let r = c.args.rules.now in
     let t =
     filled (content r) c.args.legal.now c.args.allowed.now c.args.next.now c.args.promises.now c.args.goals.now
-    c.tabulate-legal.new.legal c.tabulate-allowed.new.allowed c.tabulate-next.new.next c.tabulate-states.new.table c.tabulate-states-2.new.table
+    c.tabulate_legal.new.legal c.tabulate_allowed.new.allowed c.tabulate_next.new.next c.tabulate_states.new.table c.tabulate_states-2.new.table
     c.requires.sound c.requires.room
-    c.tabulate-legal.auto.legal c.tabulate-allowed.auto.allowed c.tabulate-next.auto.next c.tabulate-states.auto.table c.tabulate-states-2.auto.table
-    c.tabulate-legal.ensures c.tabulate-allowed.ensures c.tabulate-next.ensures c.tabulate-states.ensures c.tabulate-states-2.ensures in
+    c.tabulate_legal.auto.legal c.tabulate_allowed.auto.allowed c.tabulate_next.auto.next c.tabulate_states.auto.table c.tabulate_states-2.auto.table
+    c.tabulate_legal.ensures c.tabulate_allowed.ensures c.tabulate_next.ensures c.tabulate_states.ensures c.tabulate_states-2.ensures in
     record {
       agrees = arena_agrees (content r) _ (record {
         states_is = c.states.ensures;

@@ -7,8 +7,8 @@ use Rattle.sets.proofs.Tables.{entry_more, given_legal, not_legal, entry_state, 
 use Rattle.sets.proofs.tabulate.tabulate_allowed.Goals as goal
 use Rattle.sets.proofs.tabulate.tabulate_allowed.Goals.{then-legal-k-eq1, else-legal-k-eq1}
 
-pub overflow-cast-state : goal.overflow-cast-state
-overflow-cast-state c =
+pub overflow_cast-state : goal.overflow_cast-state
+overflow_cast-state c =
     let w = c.args.rules.now.widths in
     omega (arith, entry_state c.loop-k.k (2 ^ min w.state 12) (min w.moves 6) c.moves-moves.result c.moves-moves.ensures (omega (arith, c.requires.size)), most_states w.state)
 
@@ -17,8 +17,8 @@ bounds-legal-k c =
     let w = c.args.rules.now.widths in
     omega (arith, entry_state c.loop-k.k (2 ^ min w.state 12) (min w.moves 6) c.moves-moves.result c.moves-moves.ensures (omega (arith, c.requires.size)), c.requires.known)
 
-pub overflow-shr-legal : goal.overflow-shr-legal
-overflow-shr-legal c =
+pub overflow_shr-legal : goal.overflow_shr-legal
+overflow_shr-legal c =
     let w = c.args.rules.now.widths in
     omega (arith, entry_move c.loop-k.k (min w.moves 6) c.moves-moves.result c.moves-moves.ensures, most_moves w.moves)
 
@@ -31,7 +31,7 @@ loop-k-preserved c =
     entry_more (λ k x. Spread x (allowed_at g m c.args.legal.now k)) c.loop-k.allowed k c.if-legal-k-eq1.allowed
     (omega arith) c.loop-k.invariant
     (elim c.if-legal-k-eq1.branch [
-      | then-legal-k-eq1 w ↦ given_legal _ word (k % m) (g.allowed (k / m) (k % m)) w.if-legal-k-eq1.true (subst (λ x. Spread x (g.allowed (k / m) (k % m))) (sym w.allowed-is) w.allowed-answers.ensures)
+      | then-legal-k-eq1 w ↦ given_legal _ word (k % m) (g.allowed (k / m) (k % m)) w.if-legal-k-eq1.true (subst (λ x. Spread x (g.allowed (k / m) (k % m))) (sym w.allowed-is) w.allowed_answers.ensures)
       | else-legal-k-eq1 w ↦ not_legal _ word (k % m) (g.allowed (k / m) (k % m)) w.if-legal-k-eq1.false w.allowed-is
     ])
 

@@ -7,5 +7,5 @@ use Rattle.sets.proofs.tabulate.tabulate_legal.Goals as goal
 
 pub loop-s-preserved : goal.loop-s-preserved
 loop-s-preserved c =
-    entry_more (λ k x. Spread x ((game_of (content c.args.rules.now)).moves k)) c.loop-s.legal c.loop-s.s c.legal-moves.result
-    (omega arith) c.loop-s.invariant c.legal-moves.ensures
+    entry_more (λ k x. Spread x ((game_of (content c.args.rules.now)).moves k)) c.loop-s.legal c.loop-s.s c.legal_moves.result
+    (omega arith) c.loop-s.invariant c.legal_moves.ensures

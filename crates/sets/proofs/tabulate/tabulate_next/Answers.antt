@@ -5,27 +5,27 @@ use Rattle.sets.specs.Tabulate.{next_at}
 use Rattle.sets.proofs.Tables.{row_more, row_within, row_length, few_entries, entry_state, most_states, most_moves}
 use Rattle.sets.proofs.tabulate.tabulate_next.Goals as goal
 
-pub overflow-cast-step : goal.overflow-cast-step
-overflow-cast-step c =
+pub overflow_cast-step : goal.overflow_cast-step
+overflow_cast-step c =
     let w = c.args.rules.now.widths in
     omega (arith, entry_state c.loop-k.k (2 ^ min w.state 12) (min w.moves 6) c.moves-moves.result c.moves-moves.ensures (omega (arith, c.requires.size)), most_states w.state)
 
-pub offset-bounds-next-first : goal.offset-bounds-next-first
-offset-bounds-next-first c =
+pub offset_bounds-next-first : goal.offset_bounds-next-first
+offset_bounds-next-first c =
     let w = c.args.rules.now.widths in
     let end = row_within c.loop-k.k c.answers-answers.result (2 ^ min w.answer 6) (length c.args.allowed.now) (length c.args.next.now)
     c.loop-k-test.true c.answers-answers.ensures c.requires.room in
     omega (arith, end, few_entries w.state w.moves w.answer (length c.args.allowed.now) (length c.args.next.now) c.requires.size c.requires.room)
 
-pub slice-bounds-states-after-end : goal.slice-bounds-states-after-end
-slice-bounds-states-after-end c =
+pub slice_bounds-states_after-end : goal.slice_bounds-states_after-end
+slice_bounds-states_after-end c =
     let w = c.args.rules.now.widths in
     let end = row_within c.loop-k.k c.answers-answers.result (2 ^ min w.answer 6) (length c.args.allowed.now) (length c.args.next.now)
     c.loop-k-test.true c.answers-answers.ensures c.requires.room in
     search rules
 
-pub states-after-requires : goal.states-after-requires
-states-after-requires c =
+pub states_after-requires : goal.states_after-requires
+states_after-requires c =
     let w = c.args.rules.now.widths in
     let end = row_within c.loop-k.k c.answers-answers.result (2 ^ min w.answer 6) (length c.args.allowed.now) (length c.args.next.now)
     c.loop-k-test.true c.answers-answers.ensures c.requires.room in
@@ -37,11 +37,11 @@ loop-k-preserved c =
     let end = row_within c.loop-k.k c.answers-answers.result (2 ^ min w.answer 6) (length c.args.allowed.now) (length c.args.next.now)
     c.loop-k-test.true c.answers-answers.ensures c.requires.room in
     let within : c.loop-k.k * c.answers-answers.result + c.answers-answers.result ≤ length c.loop-k.next = omega (arith, end, c.loop-k.auto.next) in
-    let size : length c.states-after.new.row ≡ c.answers-answers.result =
-    c.states-after.auto.row ∙ row_length (c.loop-k.k * c.answers-answers.result) c.answers-answers.result c.loop-k.next within in
+    let size : length c.states_after.new.row ≡ c.answers-answers.result =
+    c.states_after.auto.row ∙ row_length (c.loop-k.k * c.answers-answers.result) c.answers-answers.result c.loop-k.next within in
     row_more (next_at (game_of (content c.args.rules.now)) c.moves-moves.result c.args.allowed.now)
-    c.answers-answers.result c.loop-k.k _ c.loop-k.next c.states-after.new.row
-    within size c.loop-k.invariant (λ a h. c.states-after.ensures a (omega (arith, size)))
+    c.answers-answers.result c.loop-k.k _ c.loop-k.next c.states_after.new.row
+    within size c.loop-k.invariant (λ a h. c.states_after.ensures a (omega (arith, size)))
 
 pub returns : goal.returns
 returns c k h =

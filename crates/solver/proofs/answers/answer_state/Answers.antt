@@ -9,4 +9,4 @@ use Rattle.solver.proofs.answers.answer_state.Goals as goal
 pub loop-e-preserved : goal.loop-e-preserved
 loop-e-preserved c =
     cells_more (Answer (arena_game c.args.arena) (member c.args.zone.now) c.args.j (cell c.args.ranks.now) (cell c.args.waits.now) c.args.s)
-    _ _ _ (omega arith) c.loop-e.invariant c.answer-for.ensures
+    _ _ _ (omega arith) c.loop-e.invariant c.answer_for.ensures

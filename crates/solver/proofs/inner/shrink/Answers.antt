@@ -9,11 +9,11 @@ use Rattle.solver.proofs.Shrinks.{shrunk_none, shrunk-miss, shrunk-hit, along2, 
 use Rattle.solver.proofs.inner.shrink.Goals as goal
 use Rattle.solver.proofs.inner.shrink.Goals.{then-leaves, else-leaves}
 
-pub offset-bounds-turns-s : goal.offset-bounds-turns-s
-offset-bounds-turns-s c = Fits-below {n = 131072} tt (omega arith)
+pub offset_bounds-turns-s : goal.offset_bounds-turns-s
+offset_bounds-turns-s c = Fits-below {n = 131072} tt (omega arith)
 
 pub loop-s-init : goal.loop-s-init
-loop-s-init c = shrunk_none _ _ _ _ _ _ _ _ c.copy-from-slice.ensures.after
+loop-s-init c = shrunk_none _ _ _ _ _ _ _ _ c.copy_from_slice.ensures.after
 
 pub loop-s-preserved : goal.loop-s-preserved
 loop-s-preserved c =
@@ -31,11 +31,11 @@ returns c =
     let end : c.loop-s.s ≡ c.args.arena.states = omega arith in
     along2
     (λ (b : List ℕ) (k : ℕ). Shrunk (arena_game c.args.arena) (member c.args.base.now) c.args.i c.args.arena.states b c.args.turns.now c.args.turn k c.loop-s.stay c.loop-s.turns c.loop-s.removed)
-    (sym c.copy-from-slice.ensures.after) (sym end) c.loop-s.invariant
+    (sym c.copy_from_slice.ensures.after) (sym end) c.loop-s.invariant
 
-pub overflow-cast-turns : goal.overflow-cast-turns
-overflow-cast-turns c =
+pub overflow_cast-turns : goal.overflow_cast-turns
+overflow_cast-turns c =
     let some : 0 < count c.args.arena.states (member c.args.stay.now) =
     count_some _ (member c.args.stay.now) c.loop-s.s (omega arith)
-    (subst (λ (b : List ℕ). member b c.loop-s.s ≡ true) c.copy-from-slice.ensures.after c.if-leaves.ensures.0) in
+    (subst (λ (b : List ℕ). member b c.loop-s.s ≡ true) c.copy_from_slice.ensures.after c.if-leaves.ensures.0) in
     Fits-below {n = 65535} tt (omega (arith, c.requires.turn))

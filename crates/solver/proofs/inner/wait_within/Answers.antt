@@ -9,7 +9,7 @@ use Rattle.solver.proofs.inner.wait_within.Goals as goal
 pub inner-init : goal.inner-init
 inner-init c = (
   subst (λ (x : List ℕ). Staying (arena_game c.args.arena) c.args.arena.states (member c.args.zone.now) (member c.args.base.now) c.args.i (member x) (cell c.args.turns.now) 0)
-      (sym c.copy-from-slice.ensures.after) (staying-first _ _ _ _ _ _),
+      (sym c.copy_from_slice.ensures.after) (staying-first _ _ _ _ _ _),
   λ s z. refl,
 )
 

@@ -24,16 +24,16 @@ middle-init c =
       beyond = λ i s l m. refl;
     }
 
-pub find-base-requires : goal.find-base-requires
-find-base-requires c =
+pub find_base-requires : goal.find_base-requires
+find_base-requires c =
     record {
       zone = omega arith;
       hits = omega arith;
       reach = omega arith;
       base = omega arith;
       grounded =
-          on-base _ _ _ _ _ (under c.args.zone.now _ (omega arith)) (under c.find-hits.new.hits _ (omega arith))
-          c.find-hits.ensures _ _ _ _ c.middle.invariant.ranked;
+          on-base _ _ _ _ _ (under c.args.zone.now _ (omega arith)) (under c.find_hits.new.hits _ (omega arith))
+          c.find_hits.ensures _ _ _ _ c.middle.invariant.ranked;
     }
 
 pub round-rank-requires : goal.round-rank-requires
@@ -48,8 +48,8 @@ round-rank-requires c =
       waits = omega arith;
       turns = omega (arith, c.requires.turns);
       is_base =
-          base-is _ _ _ _ _ (under c.args.zone.now _ (omega arith)) (under c.find-hits.new.hits _ (omega arith))
-          c.find-hits.ensures _ _ (under c.find-base.new.base _ (omega arith)) c.find-base.ensures;
+          base-is _ _ _ _ _ (under c.args.zone.now _ (omega arith)) (under c.find_hits.new.hits _ (omega arith))
+          c.find_hits.ensures _ _ (under c.find_base.new.base _ (omega arith)) c.find_base.ensures;
       ranked = c.middle.invariant.ranked;
     }
 

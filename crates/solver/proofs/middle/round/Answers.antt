@@ -21,12 +21,12 @@ pub loop-i-preserved : goal.loop-i-preserved
 loop-i-preserved c =
     let fits : c.loop-i.i * c.args.arena.states + c.args.arena.states ≤ length c.loop-i.turns =
     row_fits _ _ c.args.arena.promise_count _ c.loop-i-test.true (omega (arith, c.requires.turns)) in
-    let part : length c.wait-within.new.turns ≡ c.args.arena.states =
-    c.wait-within.auto.turns ∙ part_length _ _ _ _ (omega arith) fits in
+    let part : length c.wait_within.new.turns ≡ c.args.arena.states =
+    c.wait_within.auto.turns ∙ part_length _ _ _ _ (omega arith) fits in
     record {
       on = λ r is h.
           rounded-more _ _ _ _ _ r _ _ _ _ _ _ _ _ (omega (arith, promises_is c.args.arena)) (λ s z. omega (arith, member_below c.args.zone.now s z)) is (c.loop-i.invariant.on r is h)
-          c.wait-within.new.stay (omega arith) _ _ c.wait-within.ensures _
+          c.wait_within.new.stay (omega arith) _ _ c.wait_within.ensures _
           (λ s l. row_part _ _ _ s _ (omega arith) l)
           (λ s l. row_here _ _ _ _ s _ part fits l)
           (λ k s ne l. row_there _ _ _ _ k s _ (omega arith) part fits ne l)

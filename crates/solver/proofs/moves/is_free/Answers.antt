@@ -13,7 +13,7 @@ pub returns : goal.returns
 returns c = (
   λ e. (
     sym c.if-has.ensures,
-    inr (omega arith, omega arith, omega (arith, goals_is c.args.arena), sym c.if-reaches.ensures, c.goes-onward.ensures.0 e),
+    inr (omega arith, omega arith, omega (arith, goals_is c.args.arena), sym c.if-reaches.ensures, c.goes_onward.ensures.0 e),
   ),
-  λ o. ⊎_elim (λ lt. absurd (omega arith)) (λ p. c.goes-onward.ensures.1 p.4) o.1,
+  λ o. ⊎_elim (λ lt. absurd (omega arith)) (λ p. c.goes_onward.ensures.1 p.4) o.1,
 )

@@ -17,12 +17,12 @@ loop-i-preserved c =
     row_fits _ _ (turn-rows a.promise_count) _ (omega arith) (omega (arith, c.requires.turns)) in
     let fits-m : c.loop-i.i * a.states + a.states ≤ length c.loop-i.moves =
     row_fits _ _ (turn-rows a.promise_count) _ (omega arith) (omega (arith, c.requires.moves)) in
-    let part-t : length c.clear-row.new.turns ≡ a.states = c.clear-row.auto.turns ∙ part_length _ _ _ _ (omega arith) fits-t in
-    let part_m : length c.move-row.new.moves ≡ a.states = c.move-row.auto.moves ∙ part_length _ _ _ _ (omega arith) fits-m in
+    let part-t : length c.clear_row.new.turns ≡ a.states = c.clear_row.auto.turns ∙ part_length _ _ _ _ (omega arith) fits-t in
+    let part_m : length c.move_row.new.moves ≡ a.states = c.move_row.auto.moves ∙ part_length _ _ _ _ (omega arith) fits-m in
     moved_more _ _ (λ s e k. after_below a s e k) _ _ _ _ _ _ _ c.loop-i.invariant
-    _ _ _ c.clear-row.ensures _
+    _ _ _ c.clear_row.ensures _
     (λ s l. row_part _ _ _ s _ (omega arith) l)
     (λ s l. row_here _ _ _ _ s _ part-t fits-t l) (λ k s ne l. row_there _ _ _ _ k s _ (omega arith) part-t fits-t ne l)
     (λ s l. sym (row_here _ _ _ _ s _ part-t fits-t l))
-    _ _ c.move-row.ensures
+    _ _ c.move_row.ensures
     (λ s l. row_here _ _ _ _ s _ part_m fits-m l) (λ k s ne l. row_there _ _ _ _ k s _ (omega arith) part_m fits-m ne l)

@@ -9,4 +9,4 @@ use Rattle.solver.proofs.moves.move_row.Goals as goal
 pub loop-s-preserved : goal.loop-s-preserved
 loop-s-preserved c =
     cells_more (Move (arena_game c.args.arena) (member c.args.zone.now) (cell c.args.layers.now) (cell c.args.avoids.now) (cell c.args.turns.now) c.args.i)
-    _ _ _ (omega arith) c.loop-s.invariant c.move-for.ensures
+    _ _ _ (omega arith) c.loop-s.invariant c.move_for.ensures

@@ -6,12 +6,12 @@ use Rattle.solver.proofs.Passes.{passed_none, passed-more}
 use Rattle.solver.proofs.Rows.{part_length, row_fits, row_here, row_there}
 use Rattle.solver.proofs.outer.pass.Goals as goal
 
-pub slice-bounds-attain-end : goal.slice-bounds-attain-end
-slice-bounds-attain-end c =
+pub slice_bounds-attain-end : goal.slice_bounds-attain-end
+slice_bounds-attain-end c =
     row_fits c.args.arena.states c.loop-j.j c.args.arena.goal_count (length c.loop-j.ranks) c.loop-j-test.true (omega (arith, c.requires.ranks))
 
-pub slice-bounds-attain-end-in-loop-j : goal.slice-bounds-attain-end-in-loop-j
-slice-bounds-attain-end-in-loop-j c =
+pub slice_bounds-attain-end-in-loop-j : goal.slice_bounds-attain-end-in-loop-j
+slice_bounds-attain-end-in-loop-j c =
     row_fits c.args.arena.states c.loop-j.j c.args.arena.goal_count (length c.loop-j.waits) c.loop-j-test.true (omega (arith, c.requires.waits))
 
 pub loop-j-preserved : goal.loop-j-preserved
@@ -27,4 +27,4 @@ loop-j-preserved c =
     _ _ _ _ c.attain.ensures _ _
     (λ s l. row_here _ _ _ _ s _ part-r fits-r l) (λ k s ne l. row_there _ _ _ _ k s _ (omega arith) part-r fits-r ne l)
     (λ s l. row_here _ _ _ _ s _ part-w fits-w l) (λ k s ne l. row_there _ _ _ _ k s _ (omega arith) part-w fits-w ne l)
-    _ _ _ _ c.drop-lost-next.ensures
+    _ _ _ _ c.drop_lost-next.ensures

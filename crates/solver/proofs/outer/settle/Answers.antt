@@ -14,8 +14,8 @@ outer-init c = (
   omega arith,
 )
 
-pub overflow-add-rounds : goal.overflow-add-rounds
-overflow-add-rounds c = Fits-below {n = 65537} tt (omega (arith, c.outer.invariant.0.left, c.outer.invariant.1))
+pub overflow_add-rounds : goal.overflow_add-rounds
+overflow_add-rounds c = Fits-below {n = 65537} tt (omega (arith, c.outer.invariant.0.left, c.outer.invariant.1))
 
 pub outer-preserved : goal.outer-preserved
 outer-preserved c = (c.pass-layer.ensures.lost, omega (arith, c.pass-layer.ensures.up, c.outer.invariant.1))

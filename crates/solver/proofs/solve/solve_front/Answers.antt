@@ -7,11 +7,11 @@ pub returns : goal.returns
 returns c =
     let t = c.requires.1 in
     let w = c.requires.2 in
-    let k = c.solve-within.auto in
-    let r : c.row-count.result * c.args.arena.states ≡ rows c.args.arena = ap (λ (x : ℕ). x * c.args.arena.states) c.row-count.ensures in
+    let k = c.solve_within.auto in
+    let r : c.row_count.result * c.args.arena.states ≡ rows c.args.arena = ap (λ (x : ℕ). x * c.args.arena.states) c.row_count.ensures in
     record {
       solves =
-          solves_from c.args.arena _ (lent c.solve-within.new.known c.solve-within.new.answers c.solve-within.new.ranks c.solve-within.new.waits c.solve-within.new.layers c.solve-within.new.avoids c.solve-within.new.moves c.solve-within.new.turns)
+          solves_from c.args.arena _ (lent c.solve_within.new.known c.solve_within.new.answers c.solve_within.new.ranks c.solve_within.new.waits c.solve_within.new.layers c.solve_within.new.avoids c.solve_within.new.moves c.solve_within.new.turns)
           _ _ _ _ _ _ _ _
           (record { size = omega arith; fits = t.0; len = k.known })
           (record { size = omega arith; fits = t.1; len = k.answers })
@@ -21,6 +21,6 @@ returns c =
           (record { size = omega arith; fits = w.1; len = k.avoids })
           (record { size = omega (arith, r); fits = w.2; len = k.moves })
           (record { size = omega (arith, r); fits = w.3; len = k.turns })
-          c.solve-within.ensures.solution;
-      rounds = c.solve-within.ensures.rounds;
+          c.solve_within.ensures.solution;
+      rounds = c.solve_within.ensures.rounds;
     }

@@ -16,11 +16,11 @@ returns c =
       solution =
           solution g a.states a.moves (λ s e k. after_below a s e k) (λ s e h. (move_below a s e h).1)
           _ _ _ _ _ _ _ (omega arith) c.settle-rounds.ensures.solved
-          (subst (λ (k : ℕ). Answered g a.states a.moves (member c.settle-rounds.new.zone) (row c.settle-rounds.new.ranks a.states) (row c.settle-rounds.new.waits a.states) c.answer-all.new.answers k)
-          (sym (goals_is a)) c.answer-all.ensures)
+          (subst (λ (k : ℕ). Answered g a.states a.moves (member c.settle-rounds.new.zone) (row c.settle-rounds.new.ranks a.states) (row c.settle-rounds.new.waits a.states) c.answer_all.new.answers k)
+          (sym (goals_is a)) c.answer_all.ensures)
           _ _
-          (subst (λ (k : ℕ). Moved g a.states (member c.settle-rounds.new.zone) (cell c.settle-rounds.new.layers) (cell c.settle-rounds.new.avoids) c.settle-rounds.new.turns (turn-rows k) c.move-all.new.turns c.move-all.new.moves)
-          (sym (promises_is a)) c.move-all.ensures)
+          (subst (λ (k : ℕ). Moved g a.states (member c.settle-rounds.new.zone) (cell c.settle-rounds.new.layers) (cell c.settle-rounds.new.avoids) c.settle-rounds.new.turns (turn-rows k) c.move_all.new.turns c.move_all.new.moves)
+          (sym (promises_is a)) c.move_all.ensures)
           (omega (arith, goals_is a, a.some_goals));
       rounds = c.settle-rounds.ensures.rounds;
     }

@@ -15,5 +15,5 @@ returns c _ =
     let mark : c.if-known.push ≡ cond c.args.known 1 0 =
     elim c.if-known.branch [ then-known w ↦ w.push-is ∙ simp w.if-known.true | else-known w ↦ w.push-is ∙ simp w.if-known.false ] in
     appended _ c.args.answers.now _ _ _ _ _ c.args.known c.if-known.push c.args.rank c.args.waits mark
-    c.in-ok-push.ensures.items c.in-ok-extend-from-slice.ensures.items
-    c.in-ok-push-2.ensures.items c.in-ok-push-3.ensures.items c.in-ok-push-4.ensures.items
+    c.in_ok-push.ensures.items c.in_ok-extend_from_slice.ensures.items
+    c.in_ok-push-2.ensures.items c.in_ok-push-3.ensures.items c.in_ok-push-4.ensures.items

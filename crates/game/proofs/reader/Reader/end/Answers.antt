@@ -5,5 +5,5 @@ none_left : (bs : List ℕ) → length bs ≡ 0 → bs ≡ []
 none_left [] e = refl
 none_left (b ∷ bs) e = absurd (omega arith)
 
-pub returns-then-is-empty : goal.returns-then-is-empty
-returns-then-is-empty c = none_left _ (eqb-true _ _ (sym c.if-is-empty.ensures))
+pub returns-then-is_empty : goal.returns-then-is_empty
+returns-then-is_empty c = none_left _ (eqb-true _ _ (sym c.if-is_empty.ensures))

@@ -15,5 +15,5 @@ returns-in-Ok c =
 pub returns-in-Err : goal.returns-in-Err
 returns-in-Err c =
     let all : length (vec_items c.args.out.now) ≡ c.len-before.result = omega arith in
-    let back = c.truncate.ensures.items ∙ cut_back (vec_items c.args.out.now) (vec_items c.write-rules.new.out) _ all c.in-Err.ensures in
+    let back = c.truncate.ensures.items ∙ cut_back (vec_items c.args.out.now) (vec_items c.write_rules.new.out) _ all c.in-Err.ensures in
     record { bytes = back; valid = λ _. back }

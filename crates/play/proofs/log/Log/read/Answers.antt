@@ -22,12 +22,12 @@ returns-then-bytes-lt2 c =
 pub returns : goal.returns
 returns c =
     let bs = c.args.bytes.now in
-    let front = c.split-at.result.0.now in
-    let back = c.split-at.result.1.now in
+    let front = c.split_at.result.0.now in
+    let back = c.split_at.result.1.now in
     record {
       outcome = (
         well_shaped bs c.if-bytes-lt2.false c.if-bytes-eq1.false,
-        read_again bs front back c.split-at.ensures.front c.split-at.ensures.back c.if-bytes-lt2.false c.if-bytes-eq1.false (λ i. (c.type-inv.bytes i).fits),
+        read_again bs front back c.split_at.ensures.front c.split_at.ensures.back c.if-bytes-lt2.false c.if-bytes-eq1.false (λ i. (c.type-inv.bytes i).fits),
       );
-      reads-written = λ p e. read_written p bs front back e c.split-at.ensures.front c.split-at.ensures.back;
+      reads-written = λ p e. read_written p bs front back e c.split_at.ensures.front c.split_at.ensures.back;
     }

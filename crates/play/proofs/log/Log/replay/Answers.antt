@@ -13,5 +13,5 @@ loop-steps-preserved c =
     let two : 2 ≤ length bs = grind (arith, nat_tests) in
     replay_more (game_of (content c.args.rules.now)) (vec_items c.loop-steps.states) (vec_items c.push-in-len2-up.new.self) c.loop-steps.state c.after-state.result bs _ _ two
     (take_rest bs 2) c.after-state.ensures
-    (pushed (c.after-state.result ∷ []) refl c.in-ok-push-2.was c.push-in-len2-up.ensures.items)
+    (pushed (c.after-state.result ∷ []) refl c.in_ok-push-2.was c.push-in-len2-up.ensures.items)
     c.loop-steps.invariant

@@ -8,13 +8,13 @@ pub returns-in-Ok : goal.returns-in-Ok
 returns-in-Ok c =
     let s = c.args.self.start in
     let before = vec_items c.args.out.now in
-    let start = pushed (s % 256 ∷ s / 256 ∷ []) refl c.in-ok-extend-from-slice.was c.extend-from-slice.ensures.items in
-    written_log before (vec_items c.extend-from-slice.new.self) (vec_items c.extend-from-slice-2.new.self) s c.args.self.steps.now start c.in-Ok.ensures.items
+    let start = pushed (s % 256 ∷ s / 256 ∷ []) refl c.in_ok-extend_from_slice.was c.extend_from_slice.ensures.items in
+    written_log before (vec_items c.extend_from_slice.new.self) (vec_items c.extend_from_slice-2.new.self) s c.args.self.steps.now start c.in-Ok.ensures.items
 
 pub returns-in-Err : goal.returns-in-Err
 returns-in-Err c =
     let s = c.args.self.start in
     let before = vec_items c.args.out.now in
     let all : length before ≡ c.len-before.result = omega arith in
-    let start = pushed (s % 256 ∷ s / 256 ∷ []) refl c.in-ok-extend-from-slice.was c.extend-from-slice.ensures.items in
-    c.truncate.ensures.items ∙ cut_back before (vec_items c.extend-from-slice-2.new.self) c.len-before.result all (s % 256 ∷ s / 256 ∷ [], c.in-Err.ensures.items ∙ start)
+    let start = pushed (s % 256 ∷ s / 256 ∷ []) refl c.in_ok-extend_from_slice.was c.extend_from_slice.ensures.items in
+    c.truncate.ensures.items ∙ cut_back before (vec_items c.extend_from_slice-2.new.self) c.len-before.result all (s % 256 ∷ s / 256 ∷ [], c.in-Err.ensures.items ∙ start)

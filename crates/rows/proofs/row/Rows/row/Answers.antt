@@ -7,13 +7,13 @@ returns-then-group-self c =
     no_row c.args.self.grid c.args.self.bytes.now c.args.group c.args.n
     (⊎_elim (λ h. inl h) (λ h. inr h.1) c.then-group-self.either)
 
-pub overflow-mul-at-2 : goal.overflow-mul-at-2
-overflow-mul-at-2 c =
+pub overflow_mul-at-2 : goal.overflow_mul-at-2
+overflow_mul-at-2 c =
     omega (arith, row_fits c.args.group c.args.self.grid.each c.args.n c.args.self.grid.size (omega arith) (omega arith) (omega arith) (omega arith))
 
 pub returns : goal.returns
 returns c =
-    cut_row c.args.self.grid c.args.self.bytes.now c.split-at.result.1.now c.split-at-2.result.0.now
+    cut_row c.args.self.grid c.args.self.bytes.now c.split_at.result.1.now c.split_at-2.result.0.now
     c.args.group c.args.n c.if-group-self.false c.if-n-self.false
-    (c.split-at.ensures.back ∙ ap (λ k. drop k c.args.self.bytes.now) c.min.ensures)
-    (c.split-at-2.ensures.front ∙ ap (λ k. take k c.split-at.result.1.now) c.min-2.ensures)
+    (c.split_at.ensures.back ∙ ap (λ k. drop k c.args.self.bytes.now) c.min.ensures)
+    (c.split_at-2.ensures.front ∙ ap (λ k. take k c.split_at.result.1.now) c.min-2.ensures)

@@ -5,8 +5,8 @@ use Rattle.sets.proofs.Tables.{most_states, most_moves}
 use Rattle.solver.proofs.OfRules.{same_five, most_turns}
 use Rattle.solver.proofs.needs.Needs.of.Goals as goal
 
-pub invariant-of-result : goal.invariant-of-result
-invariant-of-result c =
+pub invariant_of-result : goal.invariant_of-result
+invariant_of-result c =
     let r = c.args.rules.now in (
       omega (arith, c.states.ensures, most_states r.widths.state),
       (

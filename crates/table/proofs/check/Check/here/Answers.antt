@@ -11,11 +11,11 @@ unfolding goal_after
 returns c =
     record {
       goal = refl;
-      reached = c.goal-holds-reached.ensures;
+      reached = c.goal_holds-reached.ensures;
       later =
           elim c.if-reached.branch [
-            | then-reached w ↦ w.then-is ∙ w.next-goal-then.ensures ∙ sym (rw (sym c.goal-holds-reached.ensures ∙ w.if-reached.true) refl)
-            | else-reached w ↦ w.then-is ∙ sym (rw (sym c.goal-holds-reached.ensures ∙ w.if-reached.false) refl)
+            | then-reached w ↦ w.then-is ∙ w.next_goal-then.ensures ∙ sym (rw (sym c.goal_holds-reached.ensures ∙ w.if-reached.true) refl)
+            | else-reached w ↦ w.then-is ∙ sym (rw (sym c.goal_holds-reached.ensures ∙ w.if-reached.false) refl)
           ];
       rank = c.rank-rank.ensures;
       waits = c.waits-waits.ensures;

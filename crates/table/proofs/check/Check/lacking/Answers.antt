@@ -5,7 +5,7 @@ use Rattle.table.proofs.check.Check.lacking.Goals as goal
 
 pub returns-then-promise-self : goal.returns-then-promise-self
 returns-then-promise-self c =
-    guard_then c.args.promise c.args.self.now.rules.promises.count _ (not c.promise-holds.result) _ (ap not c.promise-holds.ensures)
+    guard_then c.args.promise c.args.self.now.rules.promises.count _ (not c.promise_holds.result) _ (ap not c.promise_holds.ensures)
     (length_formulas c.args.self.now.rules.promises.count c.args.self.now.rules.promises.bytes.now) c.if-promise-self.true
 
 pub returns-else-promise-self : goal.returns-else-promise-self
