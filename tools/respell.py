@@ -19,7 +19,7 @@ PAGES = [ROOT / "README.md", *sorted(ROOT.glob("docs/*.md"))]
 TOP = re.compile(r"(?:(?:abbrev|unfoldable|pub|data|record)\s+)*([^\s(){}:;,.]+)(?:\s+[({].*)?\s+:\s*(.*)")
 MEMBER = re.compile(r"\s+(?:pub\s+)?([A-Za-z][^\s(){}:;,.]*)\s+:\s")
 BLOCK = re.compile(r"(?:pub\s+)?(?:data|record)\s")
-NAME = re.compile(r"(?<![\w'.+-])[A-Za-z]\w*(?:-\w+)+'*(?![\w◌-])")
+NAME = re.compile(r"(?<![\w'◌-])[A-Za-z]\w*(?:-\w+)+'*(?![\w◌-])")
 
 # Where the rule gives a name that is taken, another that says the same.
 TAKEN = {"bit-and": "bit_of_and", "bit-or": "bit_of_or", "bit-xor": "bit_of_xor", "Of-rules": "ArenaOfRules"}

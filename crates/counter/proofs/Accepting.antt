@@ -45,7 +45,7 @@ module _ (c : Content) (bs : List ℕ) where
 
   rows-from : Accepts c bs → (s : ℕ) → s < 2 ^ c.state → state_sound c (grid_for c) bs s ≡ true
   rows-from a s h =
-      and_from _ _ (a.in-range s h)
+      and_from _ _ (a.in_range s h)
       (implies_by (way.known s) (rows_sound c way s)
       (λ known. (each (λ m. row_sound c way m s) (turns (length c.promises))).1
       (λ i k. implied (way.known s) (row_sound c way i s)

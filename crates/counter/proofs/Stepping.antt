@@ -17,10 +17,10 @@ use Rattle.counter.specs.Steps.{away, StandsFor, onward, StepsOf, step_by}
 
 -- a lane of the answer rule's values, within the guards of the game
 pub allowed_lane : (c : Content) (s e r : ℕ) (v : Bool) → s < 2 ^ c.state → e < 2 ^ c.moves → r < 2 ^ c.answer →
-    v ≡ value_of c.answer-rule s e (64 * 0 + r) → v ≡ (game_of c).allowed s e r
+    v ≡ value_of c.answer_rule s e (64 * 0 + r) → v ≡ (game_of c).allowed s e r
 allowed_lane c s e r v a b d h =
     let same : 64 * 0 + r ≡ r = omega arith in
-    h ∙ ap (λ y. value_of c.answer-rule s e y) same ∙ sym (rw (lt-ltb s _ a, lt-ltb e _ b, lt-ltb r _ d) refl)
+    h ∙ ap (λ y. value_of c.answer_rule s e y) same ∙ sym (rw (lt-ltb s _ a, lt-ltb e _ b, lt-ltb r _ d) refl)
 
 pub after_lane : (c : Content) (s e r n : ℕ) → n ≡ (game_of c).after s e (64 * 0 + r) → n ≡ (game_of c).after s e r
 after_lane c s e r n h = let same : 64 * 0 + r ≡ r = omega arith in h ∙ ap (λ y. (game_of c).after s e y) same

@@ -1,16 +1,16 @@
 -- Reading and writing are inverse, both ways round.
-use Rattle.std.proofs.Common.{◌≡◌, ℕ, zero, suc, ◌+◌, ◌-◌, ◌<◌, ◌≤◌, Bool, true, false, cond, eqb, ltb, List, [], ◌∷◌, ◌++◌, length, Ok, Err, Result, sym, refl, ap, ◌∙◌, subst, append_assoc, append-nil, add-zero, add-suc, arith}
-use Rattle.std.proofs.lemmas.Bool.{lt-ltb, le-ltb, ltb-true, ltb-false, eqb-true, both_ways, cond_both, cond-true, cond-false}
+use Rattle.std.proofs.Common.{◌≡◌, ℕ, zero, suc, ◌+◌, ◌-◌, ◌<◌, Bool, true, false, cond, eqb, ltb, List, [], ◌∷◌, ◌++◌, length, Ok, Err, Result, sym, refl, ap, ◌∙◌, append_assoc, append-nil, add-zero, arith}
+use Rattle.std.proofs.lemmas.Bool.{lt-ltb, le-ltb, ltb-true, ltb-false, eqb-true, both_ways, cond_both, cond-false}
 use Rattle.std.proofs.lemmas.Bool.Decides.{nat_tests}
 use Rattle.formula.specs.declared.symbol.Symbol.{Symbol}
 use Rattle.formula.specs.declared.symbol.Symbol.TheVariants.{Constant, Not, And, Or, Equal, State, Move, Answer, Unknown}
 use Rattle.formula.specs.declared.scope.Scope.{Scope}
 use Rattle.formula.specs.declared.reading.Fault.{Fault}
-use Rattle.formula.specs.declared.reading.Fault.TheVariants.{Symbol as Bad, Short, Long}
+use Rattle.formula.specs.declared.reading.Fault.TheVariants.{Long}
 use Rattle.formula.specs.Symbols.{symbol_of, arity_of, permitted}
 use Rattle.formula.specs.Trees.{Tree, constant, state, move, answer, negation, both, either, same, written, Fits}
-use Rattle.formula.specs.Reading.{scan, reading, forest, top, under, plant, formula_of}
-use Rattle.formula.specs.Laws.{Formed, WrittenRead, ReadWritten}
+use Rattle.formula.specs.Reading.{scan, reading, forest, top, under, plant}
+use Rattle.formula.specs.Laws.{WrittenRead, ReadWritten}
 
 -- the bytes of bits
 state_byte : (i : ℕ) → i < 16 → symbol_of (16 + i) ≡ State i

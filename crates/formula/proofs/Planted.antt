@@ -1,9 +1,8 @@
 -- The values of a formula's word from those of its operands' words.
-use Rattle.std.proofs.Common.{◌≡◌, ℕ, pred, ◌+◌, ◌-◌, ◌*◌, ◌<◌, ◌≤◌, Bool, true, false, not, ◌&&◌, ◌||◌, List, [], ◌∷◌, length, get_or, sym, refl, ap, ◌∙◌, arith}
+use Rattle.std.proofs.Common.{◌≡◌, ℕ, pred, ◌<◌, Bool, true, false, not, List, [], ◌∷◌, length, get_or, refl, ap, ◌∙◌, arith}
 use mathlib.Core.Bool.{beq}
 use lib.Bits.{bit_and, bit_or, bit_xor}
 use Rattle.std.specs.List.{between}
-use Rattle.std.proofs.lemmas.List.Edits.{length-between}
 use Rattle.formula.specs.declared.symbol.Symbol.{Symbol}
 use Rattle.formula.specs.Bits.{bit}
 use Rattle.formula.specs.Symbols.{symbol_of}

@@ -1,5 +1,5 @@
 -- One step of the scan, as the code makes it.
-use Rattle.std.proofs.Common.{◌≡◌, ℕ, zero, suc, ◌+◌, ◌-◌, ◌<◌, true, List, [], ◌∷◌, length, get_or, sym, refl, add-one, sub-one, arith}
+use Rattle.std.proofs.Common.{◌≡◌, ℕ, zero, suc, ◌+◌, ◌-◌, ◌<◌, true, List, [], ◌∷◌, length, get_or, add-one, sub-one, arith}
 use Rattle.std.specs.List.{between}
 use Rattle.formula.specs.declared.scope.Scope.{Scope}
 use Rattle.formula.specs.Symbols.{symbol_of, arity_of, permitted}

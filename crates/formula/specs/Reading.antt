@@ -3,7 +3,7 @@
 --   reading           the same for one formula that fills the row
 --   forest            the formulas that a row of bytes holds, one after the other
 --   formula_of        the first of them
-use Rattle.std.specs.Prelude.{ℕ, zero, suc, ◌+◌, Bool, true, false, cond, List, [], ◌∷◌, length, Ok, Err, Result, nat_lt}
+use Rattle.std.specs.Prelude.{ℕ, zero, suc, ◌+◌, false, cond, List, [], ◌∷◌, length, Ok, Err, Result, nat_lt}
 use Rattle.formula.specs.declared.symbol.Symbol.{Symbol}
 use Rattle.formula.specs.declared.symbol.Symbol.TheVariants.{Constant, Not, And, Or, Equal, State, Move, Answer, Unknown}
 use Rattle.formula.specs.declared.scope.Scope.{Scope}

@@ -153,23 +153,23 @@ pub written_read : RulesWrittenRead
 written_read c v =
     let n = length (file_of c) in
     let w : Widths = record { state = c.state; moves = c.moves; answer = c.answer } in
-    let t : Triple = (c.move-rule, c.answer-rule, c.next) in
+    let t : Triple = (c.move_rule, c.answer_rule, c.next) in
     let starts = start_group_bytes c.starts in
     let goals = group_bytes c.goals ++ starts in
     let promises = group_bytes c.promises ++ goals in
     let steps = steps_bytes t ++ promises in
     let file : file_of c ≡ widths_bytes w ++ steps = file_parts w t c.promises c.goals c.starts in
     at_widths (file_of c) (part w steps)
-    (ap (read_widths n) file ∙ (widths_inverse n).forth w steps (record { state = v.few-state; moves = v.few-moves; answer = v.few-answer }))
+    (ap (read_widths n) file ∙ (widths_inverse n).forth w steps (record { state = v.few_state; moves = v.few_moves; answer = v.few_answer }))
     ∙ at_steps n n w steps (part t promises) refl
-    ((steps_inverse n w).forth t promises (record { moves = v.sound-moves; answers = v.sound-answers; next = (v.each-bit, v.sound-next) }))
+    ((steps_inverse n w).forth t promises (record { moves = v.sound_moves; answers = v.sound_answers; next = (v.each_bit, v.sound_next) }))
     ∙ at_promises n n w (state_scope c.state) t promises (part c.promises goals) refl refl
-    ((group_inverse n (state_scope c.state) 0 8).forth c.promises goals ((omega arith, v.few-promises), v.sound-promises))
+    ((group_inverse n (state_scope c.state) 0 8).forth c.promises goals ((omega arith, v.few_promises), v.sound_promises))
     ∙ at_goals n n w (state_scope c.state) t c.promises goals (part c.goals starts) refl refl
-    ((group_inverse n (state_scope c.state) 1 8).forth c.goals starts ((v.some-goal, v.few-goals), v.sound-goals))
+    ((group_inverse n (state_scope c.state) 1 8).forth c.goals starts ((v.some_goal, v.few_goals), v.sound_goals))
     ∙ at_starts n n (2 ^ c.state) w t c.promises c.goals starts (part c.starts []) refl refl
     (ap (read_start_group n (2 ^ c.state) 1 16) (sym (append-nil starts))
-    ∙ (start_group_inverse n (2 ^ c.state) 1 16).forth c.starts [] ((v.some-start, v.few-starts), v.sound-starts))
+    ∙ (start_group_inverse n (2 ^ c.state) 1 16).forth c.starts [] ((v.some_start, v.few_starts), v.sound_starts))
 
 -- The same for what a reader of rules promises: `file` are the bytes of a slice.
 -- the bytes of a slice are bytes
@@ -195,4 +195,4 @@ sound_short sc bs = by (ltb 255 (length bs)) refl
 -- so valid rules are written as they are
 pub valid_fitted : (c : Content) → Valid c → fitted c ≡ c
 valid_fitted c v =
-    rw (take_all 255 c.move-rule (sound_short _ c.move-rule v.sound-moves), take_all 255 c.answer-rule (sound_short _ c.answer-rule v.sound-answers)) refl
+    rw (take_all 255 c.move_rule (sound_short _ c.move_rule v.sound_moves), take_all 255 c.answer_rule (sound_short _ c.answer_rule v.sound_answers)) refl

@@ -48,8 +48,8 @@ pub record Valid (c : Content) : Type 0 where
   pub few_state : c.state ≤ 12
   pub few_moves : c.moves ≤ 6
   pub few_answer : c.answer ≤ 6
-  pub sound_moves : Sound (move_scope c.state c.moves) c.move-rule
-  pub sound_answers : Sound (step_scope c.state c.moves c.answer) c.answer-rule
+  pub sound_moves : Sound (move_scope c.state c.moves) c.move_rule
+  pub sound_answers : Sound (step_scope c.state c.moves c.answer) c.answer_rule
   pub each_bit : length c.next ≡ c.state
   pub sound_next : All (Sound (step_scope c.state c.moves c.answer)) c.next
   pub few_promises : length c.promises ≤ 8
@@ -79,7 +79,7 @@ two_bytes (s ∷ ss) = s % 256 ∷ s / 256 ∷ two_bytes ss
 abbrev pub file_of : Content → List ℕ
 file_of c =
     (c.state ∷ c.moves ∷ c.answer ∷ [])
-    ++ (with_length c.move-rule ++ (with_length c.answer-rule ++ (with_lengths c.next
+    ++ (with_length c.move_rule ++ (with_length c.answer_rule ++ (with_lengths c.next
     ++ ((length c.promises ∷ with_lengths c.promises) ++ ((length c.goals ∷ with_lengths c.goals)
     ++ (length c.starts ∷ two_bytes c.starts))))))
 

@@ -22,9 +22,9 @@ number (f ∷ fs) s e a = cond (value_of f s e a) 1 0 + 2 * number fs s e a
 abbrev pub game_of : Content → Game
 game_of c =
     record {
-      moves = λ s e. nat_lt s (2 ^ c.state) && (nat_lt e (2 ^ c.moves) && value_of c.move-rule s e 0);
+      moves = λ s e. nat_lt s (2 ^ c.state) && (nat_lt e (2 ^ c.moves) && value_of c.move_rule s e 0);
       allowed = λ s e a.
-          nat_lt s (2 ^ c.state) && (nat_lt e (2 ^ c.moves) && (nat_lt a (2 ^ c.answer) && value_of c.answer-rule s e a));
+          nat_lt s (2 ^ c.state) && (nat_lt e (2 ^ c.moves) && (nat_lt a (2 ^ c.answer) && value_of c.answer_rule s e a));
       after = λ s e a. number c.next s e a;
       promises = length c.promises;
       promise = λ i s. value_of (slice_index_or c.promises i []) s 0 0;

@@ -12,5 +12,5 @@ rules_within c =
     record {
       states = λ s e legal. ltb-true _ _ (and_parts _ _ legal).0;
       moves = λ s e legal. ltb-true _ _ (and_parts _ _ (and_parts _ _ legal).1).0;
-      answers = λ s e a allowed. ltb-true _ _ (third (ltb s (2 ^ c.state)) (ltb e (2 ^ c.moves)) _ (value_of c.answer-rule s e a) allowed);
+      answers = λ s e a allowed. ltb-true _ _ (third (ltb s (2 ^ c.state)) (ltb e (2 ^ c.moves)) _ (value_of c.answer_rule s e a) allowed);
     }

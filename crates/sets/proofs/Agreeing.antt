@@ -30,10 +30,10 @@ allowed_there : (c : Content) (legal allowed : List ℕ) (s e a : ℕ) → Valid
     s < state_count c → e < move_count c → a < answer_count c →
     bit (get_or allowed (s * move_count c + e) 0) a ≡ ((game_of c).moves s e && (game_of c).allowed s e a)
 allowed_there c legal allowed s e a valid legal_size allowed_size L A hs he ha =
-    A (s * move_count c + e) (entry c allowed s e allowed_size hs he) a (omega (arith, room c.answer valid.few-answer))
+    A (s * move_count c + e) (entry c allowed s e allowed_size hs he) a (omega (arith, room c.answer valid.few_answer))
     ∙ (ap (λ t. bit (get_or legal t 0) ((s * move_count c + e) % move_count c) && (game_of c).allowed t ((s * move_count c + e) % move_count c) a) (div-mul-add s (move_count c) e he)
     ∙ (ap (λ m. bit (get_or legal s 0) m && (game_of c).allowed s m a) (mod-mul-add s (move_count c) e he)
-    ∙ ap (λ b. b && (game_of c).allowed s e a) (L s (omega (arith, legal_size)) e (omega (arith, room c.moves valid.few-moves)))))
+    ∙ ap (λ b. b && (game_of c).allowed s e a) (L s (omega (arith, legal_size)) e (omega (arith, room c.moves valid.few_moves)))))
 
 after_there : (c : Content) (allowed next : List ℕ) (s e a : ℕ) (b : Bool) → length allowed ≡ state_count c * move_count c →
     NextTable (game_of c) (move_count c) (answer_count c) allowed next →
@@ -52,12 +52,12 @@ pub tabulated : (c : Content) (legal allowed next promises goals : List ℕ) →
     Tabulated c legal allowed next promises goals
 tabulated c legal allowed next promises goals valid size L A N P G =
     record {
-      moves_in = λ s e hs he. L s (omega (arith, size.legal-size)) e (omega (arith, room c.moves valid.few-moves));
-      allowed_in = λ s e a. allowed_there c legal allowed s e a valid size.legal-size size.allowed-size L A;
-      after_in = λ s e a hs he ha. after_there c allowed next s e a _ size.allowed-size N hs he ha
-          (allowed_there c legal allowed s e a valid size.legal-size size.allowed-size L A hs he ha);
-      promise_in = λ i s hi hs. P s (omega (arith, size.promises-size)) i hi;
-      goal_in = λ j s hj hs. G s (omega (arith, size.goals-size)) j hj;
+      moves_in = λ s e hs he. L s (omega (arith, size.legal_size)) e (omega (arith, room c.moves valid.few_moves));
+      allowed_in = λ s e a. allowed_there c legal allowed s e a valid size.legal_size size.allowed_size L A;
+      after_in = λ s e a hs he ha. after_there c allowed next s e a _ size.allowed_size N hs he ha
+          (allowed_there c legal allowed s e a valid size.legal_size size.allowed_size L A hs he ha);
+      promise_in = λ i s hi hs. P s (omega (arith, size.promises_size)) i hi;
+      goal_in = λ j s hj hs. G s (omega (arith, size.goals_size)) j hj;
     }
 
 -- the tables that were filled: as long as before, and with what they are to hold
@@ -70,11 +70,11 @@ pub filled : (c : Content) (l a n p g l' a' n' p' g' : List ℕ) → Valid c →
 filled c l a n p g l' a' n' p' g' valid size el ea en ep eg L A N P G =
     let size' : Sized c l' a' n' p' g' =
     record {
-      legal_size = el ∙ size.legal-size;
-      allowed_size = ea ∙ size.allowed-size;
-      next_size = en ∙ size.next-size;
-      promises_size = ep ∙ size.promises-size;
-      goals_size = eg ∙ size.goals-size;
+      legal_size = el ∙ size.legal_size;
+      allowed_size = ea ∙ size.allowed_size;
+      next_size = en ∙ size.next_size;
+      promises_size = ep ∙ size.promises_size;
+      goals_size = eg ∙ size.goals_size;
     } in
     (size', tabulated c l' a' n' p' g' valid size' L A N P G)
 
@@ -100,9 +100,9 @@ next_within c legal allowed next promises goals valid size T k =
     let a : k % A < A = mod_below k A (pow_pos c.answer) in
     let place : (k / A / M * M + k / A % M) * A + k % A ≡ k = ap (λ r. r * A + k % A) (div-add-mod' (k / A) M) ∙ div-add-mod' k A in
     let small : number c.next (k / A / M) (k / A % M) (k % A) < state_count c =
-    subst (λ n. number c.next (k / A / M) (k / A % M) (k % A) < 2 ^ n) valid.each-bit (number_below c.next (k / A / M) (k / A % M) (k % A)) in
+    subst (λ n. number c.next (k / A / M) (k / A % M) (k % A) < 2 ^ n) valid.each_bit (number_below c.next (k / A / M) (k / A % M) (k % A)) in
     subst (λ p. get_or next p 0 < state_count c) place
-    (subst (λ n. n < state_count c) (sym (T.after-in (k / A / M) (k / A % M) (k % A) s e a)) (pick_below _ _ _ small)))
+    (subst (λ n. n < state_count c) (sym (T.after_in (k / A / M) (k / A % M) (k % A) s e a)) (pick_below _ _ _ small)))
     (λ past. rw (get_or_past next k 0 past) (pow_pos c.state))
     (cases_lt k (length next))
 
@@ -140,27 +140,27 @@ game_answer c s e k h =
 moves_there : (c : Content) (a : Arena) → ArenaOfRules c a → (s e : ℕ) → s < state_count c → e < move_count c →
     (arena_game a).moves s e ≡ (game_of c).moves s e
 moves_there c a o s e hs he =
-    sym (legal_bit a s e (omega (arith, o.states-is)) (omega (arith, o.moves-is))) ∙ o.tables.moves-in s e hs he
+    sym (legal_bit a s e (omega (arith, o.states_is)) (omega (arith, o.moves_is))) ∙ o.tables.moves_in s e hs he
 
 agree_moves : (c : Content) (a : Arena) → ArenaOfRules c a → (s e : ℕ) → (arena_game a).moves s e ≡ (game_of c).moves s e
 agree_moves c a o s e =
     same_test _ _
-    (λ h. let p = move_below a s e h in sym (moves_there c a o s e (omega (arith, o.states-is)) (omega (arith, o.moves-is))) ∙ h)
+    (λ h. let p = move_below a s e h in sym (moves_there c a o s e (omega (arith, o.states_is)) (omega (arith, o.moves_is))) ∙ h)
     (λ h. let p = game_move c s e h in moves_there c a o s e p.0 p.1 ∙ h)
 
 answers_there : (c : Content) (a : Arena) → ArenaOfRules c a → (s e k : ℕ) → (game_of c).moves s e ≡ true → k < answer_count c →
     (arena_game a).allowed s e k ≡ (game_of c).allowed s e k
 answers_there c a o s e k m hk =
     let p = game_move c s e m in
-    sym (allowed_bit a s e k (omega (arith, o.states-is)) (omega (arith, o.moves-is)) (omega (arith, o.answers-is)))
-    ∙ (ap (λ w. bit (get_or a.allowed.now (s * w + e) 0) k) o.moves-is
-    ∙ (o.tables.allowed-in s e k p.0 p.1 hk ∙ ap (λ b. b && (game_of c).allowed s e k) m))
+    sym (allowed_bit a s e k (omega (arith, o.states_is)) (omega (arith, o.moves_is)) (omega (arith, o.answers_is)))
+    ∙ (ap (λ w. bit (get_or a.allowed.now (s * w + e) 0) k) o.moves_is
+    ∙ (o.tables.allowed_in s e k p.0 p.1 hk ∙ ap (λ b. b && (game_of c).allowed s e k) m))
 
 agree_allowed : (c : Content) (a : Arena) → ArenaOfRules c a → (s e k : ℕ) → (game_of c).moves s e ≡ true →
     (arena_game a).allowed s e k ≡ (game_of c).allowed s e k
 agree_allowed c a o s e k m =
     same_test _ _
-    (λ h. let p = answer_below a s e k h in sym (answers_there c a o s e k m (omega (arith, o.answers-is))) ∙ h)
+    (λ h. let p = answer_below a s e k h in sym (answers_there c a o s e k m (omega (arith, o.answers_is))) ∙ h)
     (λ h. answers_there c a o s e k m (game_answer c s e k h) ∙ h)
 
 agree_after : (c : Content) (a : Arena) → ArenaOfRules c a → (s e k : ℕ) → (game_of c).moves s e ≡ true → (game_of c).allowed s e k ≡ true →
@@ -168,9 +168,9 @@ agree_after : (c : Content) (a : Arena) → ArenaOfRules c a → (s e k : ℕ) �
 unfolding arena_game
 agree_after c a o s e k m fine =
     let p = game_move c s e m in
-    ap (λ w. get_or a.next.now ((s * w + e) * a.answers + k) 0) o.moves-is
-    ∙ (ap (λ w. get_or a.next.now ((s * move_count c + e) * w + k) 0) o.answers-is
-    ∙ (o.tables.after-in s e k p.0 p.1 (game_answer c s e k fine)
+    ap (λ w. get_or a.next.now ((s * w + e) * a.answers + k) 0) o.moves_is
+    ∙ (ap (λ w. get_or a.next.now ((s * move_count c + e) * w + k) 0) o.answers_is
+    ∙ (o.tables.after_in s e k p.0 p.1 (game_answer c s e k fine)
     ∙ (ap (λ b. cond (b && (game_of c).allowed s e k) ((game_of c).after s e k) 0) m
     ∙ ap (λ b. cond b ((game_of c).after s e k) 0) fine)))
 
@@ -183,8 +183,8 @@ arena_agrees c a o =
       after = λ s e k m fine.
           let m' = sym (agree_moves c a o s e) ∙ m in
           agree_after c a o s e k m' (sym (agree_allowed c a o s e k m') ∙ fine);
-      promises = o.promises-is;
-      goals = o.goals-is;
-      promise = λ i s e l m. o.tables.promise-in i s (omega (arith, a.most_promises)) (game_move c s e (sym (agree_moves c a o s e) ∙ m)).0;
-      goal = λ j s e l m. o.tables.goal-in j s (omega (arith, a.most_goals)) (game_move c s e (sym (agree_moves c a o s e) ∙ m)).0;
+      promises = o.promises_is;
+      goals = o.goals_is;
+      promise = λ i s e l m. o.tables.promise_in i s (omega (arith, a.most_promises)) (game_move c s e (sym (agree_moves c a o s e) ∙ m)).0;
+      goal = λ j s e l m. o.tables.goal_in j s (omega (arith, a.most_goals)) (game_move c s e (sym (agree_moves c a o s e) ∙ m)).0;
     }

@@ -27,7 +27,7 @@ rules_within r =
       answers = λ s e a allowed.
           let here : Bool = ltb s (2 ^ r.state) in
           let made : Bool = ltb e (2 ^ r.moves) in
-          ltb-true _ _ (and_parts _ (value_of r.answer-rule s e a) (and_parts made _ (and_parts here _ allowed).1).1).0;
+          ltb-true _ _ (and_parts _ (value_of r.answer_rule s e a) (and_parts made _ (and_parts here _ allowed).1).1).0;
     }
 
 -- each state that is to be won is known by the plan, and each other one by the counterstrategy

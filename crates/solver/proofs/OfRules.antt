@@ -108,7 +108,7 @@ module _ (c : Content) (a : Arena) (l l' : Lent) (v : Valid c) (ag : Agree (aren
   both_ways : (s : ℕ) → s < 2 ^ c.state →
       (Known (sizes_of c) l'.answer s → Winnable c s) × (Winnable c s → Known (sizes_of c) l'.answer s)
   both_ways s h =
-      exactly (game_of c) (plan_in (sizes_of c) l'.answer) (way_in (sizes_of c) l'.answer) s v.some-goal plan counter (either s h)
+      exactly (game_of c) (plan_in (sizes_of c) l'.answer) (way_in (sizes_of c) l'.answer) s v.some_goal plan counter (either s h)
 
   zeros : Zeros c l'.answer
   zeros =
@@ -119,10 +119,10 @@ module _ (c : Content) (a : Arena) (l l' : Lent) (v : Valid c) (ag : Agree (aren
   all-beyond b =
       let t =
       subst (λ (z : Sizes). (drop z.states l'.answer.known ≡ drop z.states l.answer.known) × (drop (reply_count z) l'.answer.answers ≡ drop (reply_count z) l.answer.answers)
-      × (drop (entry_count z) l'.answer.ranks ≡ drop (entry_count z) l.answer.ranks) × (drop (entry_count z) l'.answer.waits ≡ drop (entry_count z) l.answer.waits)) e so.beyond-table in
+      × (drop (entry_count z) l'.answer.ranks ≡ drop (entry_count z) l.answer.ranks) × (drop (entry_count z) l'.answer.waits ≡ drop (entry_count z) l.answer.waits)) e so.beyond_table in
       let w =
       subst (λ (z : Sizes). (drop z.states l'.answer.layers ≡ drop z.states l.answer.layers) × (drop z.states l'.answer.avoids ≡ drop z.states l.answer.avoids)
-      × (drop (row_count z) l'.answer.moves ≡ drop (row_count z) l.answer.moves) × (drop (row_count z) l'.answer.turned ≡ drop (row_count z) l.answer.turned)) e so.beyond-way in
+      × (drop (row_count z) l'.answer.moves ≡ drop (row_count z) l.answer.moves) × (drop (row_count z) l'.answer.turned ≡ drop (row_count z) l.answer.turned)) e so.beyond_way in
       record {
         legal = b.legal;
         allowed = b.allowed;
@@ -148,7 +148,7 @@ module _ (c : Content) (a : Arena) (l l' : Lent) (v : Valid c) (ag : Agree (aren
         counter_holds = counter;
         either = either;
         never_both = λ s p q.
-            never_both (game_of c) (plan_in (sizes_of c) l'.answer) (way_in (sizes_of c) l'.answer) s v.some-goal plan counter p q;
+            never_both (game_of c) (plan_in (sizes_of c) l'.answer) (way_in (sizes_of c) l'.answer) s v.some_goal plan counter p q;
         winnable = λ s h. (both_ways s h).0;
         exactly = λ s h. (both_ways s h).1;
         zeros = zeros;

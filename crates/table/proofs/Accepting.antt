@@ -33,7 +33,7 @@ module _ (c : Content) (bs : List ℕ) where
   rows-from : Accepts c bs → (s : ℕ) → s < 2 ^ c.state → state_sound c (sheet_for c bs) s ≡ true
   rows-from a s h =
       (each (λ j. row_sound c (sheet_for c bs) j s) (length c.goals)).1
-      (λ j k. and_from _ _ (a.in-range j s k h)
+      (λ j k. and_from _ _ (a.in_range j s k h)
       ((each (λ i. plan_row (sizes_of c) (game_of c) (plan_of (sheet_for c bs)) i s) (length c.goals)).0
       ((each (plan_state (sizes_of c) (game_of c) (plan_of (sheet_for c bs))) (2 ^ c.state)).0
       ((plan_tested (sizes_of c) (game_of c) (plan_of (sheet_for c bs)) (rules_within c)).1 a.holds) s h) j k))

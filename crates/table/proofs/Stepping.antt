@@ -30,17 +30,17 @@ pub around_else : (j n m : ℕ) → m ≡ n → (j + 1 ≡ n → ⊥) → j + 1 
 around_else j n m k h = let other : suc j ≡ m → ⊥ = λ e. h (omega arith) in rw (ne_eqb (suc j) m other) (omega arith)
 
 -- a lane of the move rule's values, within the guards of the game; likewise the answer rule's
-pub legal_lane : (c : Content) (s e : ℕ) (v : Bool) → s < 2 ^ c.state → e < 2 ^ c.moves → v ≡ value_of c.move-rule s (64 * 0 + e) 0 →
+pub legal_lane : (c : Content) (s e : ℕ) (v : Bool) → s < 2 ^ c.state → e < 2 ^ c.moves → v ≡ value_of c.move_rule s (64 * 0 + e) 0 →
     v ≡ (game_of c).moves s e
 legal_lane c s e v a b h =
     let same : 64 * 0 + e ≡ e = omega arith in
-    h ∙ ap (λ x. value_of c.move-rule s x 0) same ∙ sym (rw (lt-ltb s _ a, lt-ltb e _ b) refl)
+    h ∙ ap (λ x. value_of c.move_rule s x 0) same ∙ sym (rw (lt-ltb s _ a, lt-ltb e _ b) refl)
 
 pub allowed_lane : (c : Content) (s e r x : ℕ) (v : Bool) → s < 2 ^ c.state → e < 2 ^ c.moves → r < 2 ^ c.answer → x ≡ r →
-    v ≡ value_of c.answer-rule s (64 * 0 + e) x → v ≡ (game_of c).allowed s e r
+    v ≡ value_of c.answer_rule s (64 * 0 + e) x → v ≡ (game_of c).allowed s e r
 allowed_lane c s e r x v a b d k h =
     let same : 64 * 0 + e ≡ e = omega arith in
-    h ∙ ap (λ y. value_of c.answer-rule s y x) same ∙ ap (λ y. value_of c.answer-rule s e y) k
+    h ∙ ap (λ y. value_of c.answer_rule s y x) same ∙ ap (λ y. value_of c.answer_rule s e y) k
     ∙ sym (rw (lt-ltb s _ a, lt-ltb e _ b, lt-ltb r _ d) refl)
 
 pub after_lane : (c : Content) (s e r x n : ℕ) → x ≡ r → n ≡ (game_of c).after s (64 * 0 + e) x → n ≡ (game_of c).after s e r

@@ -1,4 +1,4 @@
-use Rattle.std.proofs.Common.{◌≡◌, sym, ◌∙◌, arith, le-ltb}
+use Rattle.std.proofs.Common.{sym, ◌∙◌, arith, le-ltb}
 use Rattle.formula.proofs.BitLaws.{bit_past}
 use Rattle.formula.proofs.lanes.bit_of.Goals as goal
 

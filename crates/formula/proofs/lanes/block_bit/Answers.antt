@@ -1,4 +1,4 @@
-use Rattle.std.proofs.Common.{◌≡◌, sym, ◌∙◌, arith}
+use Rattle.std.proofs.Common.{sym, ◌∙◌}
 use Rattle.formula.proofs.Masks.{lanes_of_lane}
 use Rattle.formula.proofs.BitLaws.{bit_of_lane, bit_of_block}
 use Rattle.formula.proofs.lanes.block_bit.Goals as goal

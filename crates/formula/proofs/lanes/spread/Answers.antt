@@ -1,4 +1,4 @@
-use Rattle.std.proofs.Common.{◌≡◌, sym, ◌∙◌}
+use Rattle.std.proofs.Common.{sym, ◌∙◌}
 use Rattle.formula.proofs.Masks.{ones_lanes}
 use Rattle.formula.proofs.lanes.spread.Goals as goal
 

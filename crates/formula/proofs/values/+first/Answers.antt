@@ -1,11 +1,7 @@
-use Rattle.std.proofs.Common.{◌≡◌, ℕ, zero, pred, ◌<◌, ◌≤◌, true, false, List, [], length, get_or, sym, refl, ◌∙◌, arith}
+use Rattle.std.proofs.Common.{true, false, refl, arith}
 use Rattle.std.proofs.lemmas.Bool.Decides.{nat_tests}
-use Rattle.formula.specs.declared.symbol.Symbol.{Symbol}
 use Rattle.formula.specs.declared.symbol.Symbol.TheVariants.{Constant, Not, And, Or, Equal, State, Move, Answer, Unknown}
-use Rattle.formula.specs.Symbols.{symbol_of}
 use Rattle.formula.specs.Trees.{constant, state, move, answer, negation, both, either, same}
-use Rattle.formula.specs.Reading.{forest}
-use Rattle.formula.specs.Values.{Valued}
 use Rattle.formula.proofs.Masks.{ones_lanes}
 use Rattle.formula.proofs.Planted.{Begins, zero_lane, empty, leaf, one, two, not_lanes, and_lanes, or_lanes, same_lanes}
 use Rattle.formula.proofs.values.+first.Goals as goal

@@ -28,23 +28,23 @@ invariant_of-result c =
           (
             omega (arith, c.answers.ensures, most_moves r.widths.answer),
             (
-              omega (arith, v.few-promises, promises),
+              omega (arith, v.few_promises, promises),
               (
-                omega (arith, v.some-goal, goals),
+                omega (arith, v.some_goal, goals),
                 (
-                  omega (arith, v.few-goals, goals),
+                  omega (arith, v.few_goals, goals),
                   (
-                    z.legal-size ∙ sym c.states.ensures,
+                    z.legal_size ∙ sym c.states.ensures,
                     (
-                      computed_moves _ _ _ _ _ z.allowed-size c.states.ensures c.moves.ensures,
+                      computed_moves _ _ _ _ _ z.allowed_size c.states.ensures c.moves.ensures,
                       (
-                        computed_answers _ _ _ _ _ _ _ z.next-size c.states.ensures c.moves.ensures c.answers.ensures,
+                        computed_answers _ _ _ _ _ _ _ z.next_size c.states.ensures c.moves.ensures c.answers.ensures,
                         (
-                          z.promises-size ∙ sym c.states.ensures,
+                          z.promises_size ∙ sym c.states.ensures,
                           (
-                            z.goals-size ∙ sym c.states.ensures,
+                            z.goals_size ∙ sym c.states.ensures,
                             (
-                              λ k. subst (λ n. get_or c.tabulate_next.new.next k 0 < n) (sym c.states.ensures) (next_within (content r) _ _ _ _ _ v z.next-size t.1 k),
+                              λ k. subst (λ n. get_or c.tabulate_next.new.next k 0 < n) (sym c.states.ensures) (next_within (content r) _ _ _ _ _ v z.next_size t.1 k),
                               tt,
                             ),
                           ),

@@ -94,5 +94,5 @@ returns c =
     ∙ at_goals _ _ c.in_ok-widths.widths c.state_scope-2.result (steps_of c.in_ok-steps.steps) (formulas_of c.in_ok-promises.promises.count c.in_ok-promises.promises.bytes.now) c.group.new.self.rest.now _ n₃ c.state_scope-2.ensures c.in_ok-goals.ensures.0
     ∙ at_starts _ _ c.states.result c.in_ok-widths.widths (steps_of c.in_ok-steps.steps) (formulas_of c.in_ok-promises.promises.count c.in_ok-promises.promises.bytes.now) (formulas_of c.in_ok-goals.goals.count c.in_ok-goals.goals.bytes.now) c.group-2.new.self.rest.now _ n₄ (few_states c.states.ensures (widths_few _ c.args.file.now c.in_ok-widths.widths c.widths.new.self.rest.now c.in_ok-widths.ensures.0)) c.in_ok-starts.ensures.0
     ∙ at_end _ c.in_ok-widths.widths c.in_ok-steps.steps (formulas_of c.in_ok-promises.promises.count c.in_ok-promises.promises.bytes.now) (formulas_of c.in_ok-goals.goals.count c.in_ok-goals.goals.bytes.now) (starts_of c.in_ok-starts.starts.count c.in_ok-starts.starts.bytes.now) c.start_group.new.self.rest.now c.in_ok-end.ensures (widths_few _ c.args.file.now c.in_ok-widths.widths c.widths.new.self.rest.now c.in_ok-widths.ensures.0) c.in_ok-steps.ensures.count in
-    let w = read_written c.args.file.now _ (slice_bytes c.args.file.now c.type-inv.file) o in
+    let w = read_written c.args.file.now _ (slice_bytes c.args.file.now c.type_inv.file) o in
     record { outcome = o; valid = w.0; again = w.1; reads-written = λ d. only_one c.args.file.now _ d o }

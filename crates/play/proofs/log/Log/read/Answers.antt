@@ -27,7 +27,7 @@ returns c =
     record {
       outcome = (
         well_shaped bs c.if-bytes-lt2.false c.if-bytes-eq1.false,
-        read_again bs front back c.split_at.ensures.front c.split_at.ensures.back c.if-bytes-lt2.false c.if-bytes-eq1.false (λ i. (c.type-inv.bytes i).fits),
+        read_again bs front back c.split_at.ensures.front c.split_at.ensures.back c.if-bytes-lt2.false c.if-bytes-eq1.false (λ i. (c.type_inv.bytes i).fits),
       );
       reads-written = λ p e. read_written p bs front back e c.split_at.ensures.front c.split_at.ensures.back;
     }
