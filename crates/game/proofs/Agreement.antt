@@ -1,10 +1,10 @@
 -- Plans, counterstrategies and winners carry over between games that agree.
-use Rattle.std.proofs.Common.{◌≡◌, ℕ, zero, suc, ◌<◌, ◌≤◌, Bool, true, false, ◌&&◌, ltb, ◌⊎◌, ◌∷◌, sym, refl, ap, ◌∙◌, subst, inl, inr, ⊎_elim, arith, le-ltb}
+use Rattle.std.proofs.Common.{◌≡◌, ℕ, zero, suc, ◌<◌, true, false, ◌&&◌, ltb, ◌∷◌, sym, refl, ap, ◌∙◌, subst, inl, inr, ⊎_elim, arith, le-ltb}
 use Rattle.std.proofs.lemmas.Bool.{cases_lt, cases_eq}
-use Rattle.game.specs.Game.{Game, pick, next_around, goal_after}
-use Rattle.game.specs.Plan.{Plan, Progress, PlanHolds}
-use Rattle.game.specs.Counterstrategy.{Counterstrategy, turns, kept, Onward, Descends, CounterHolds}
-use Rattle.game.specs.Play.{Again, Finitely, NotNot, Controller, past, state_at, Legal, Answered, Fair, Winning, Beaten}
+use Rattle.game.specs.Game.{Game, goal_after}
+use Rattle.game.specs.Plan.{Plan, Progress}
+use Rattle.game.specs.Counterstrategy.{Counterstrategy, turns, kept, Onward, Descends}
+use Rattle.game.specs.Play.{Controller, past, state_at, Legal, Answered, Fair, Winning, Beaten}
 use Rattle.game.specs.Agree.{Agree, PlanAgrees, CounterAgrees, WinningAgrees, BeatenAgrees}
 
 -- ---- plans

@@ -1,5 +1,5 @@
 -- One step of the reader, as the code makes it.
-use Rattle.std.proofs.Common.{◌≡◌, ℕ, ◌-◌, ◌<◌, ◌≤◌, min, ltb, leb, List, [], ◌∷◌, length, get_or, take, Ok, Err, sym, refl, ap, ◌∙◌, ⊎_elim, arith, take_all}
+use Rattle.std.proofs.Common.{◌≡◌, ℕ, ◌-◌, ◌<◌, min, ltb, List, [], ◌∷◌, length, get_or, take, Ok, Err, sym, refl, ap, ◌∙◌, ⊎_elim, arith, take_all}
 use lib.Seq.{take-length}
 use Rattle.std.specs.List.{between}
 use Rattle.std.proofs.lemmas.Bool.{cases_lt, lt-leb}
@@ -9,7 +9,7 @@ use Rattle.formula.specs.Reading.{reading}
 use Rattle.formula.proofs.Rest.{rest_of}
 use Rattle.game.specs.declared.refusal.Refusal.{Refusal}
 use Rattle.game.specs.declared.refusal.Refusal.TheVariants.{Length}
-use Rattle.game.specs.Reading.{Step, part, refused, then, read_byte, read_formula, judged, misread}
+use Rattle.game.specs.Reading.{part, refused, read_byte, read_formula, judged, misread}
 
 pub byte_step : (whole : ℕ) (bs : List ℕ) → 0 < length bs → read_byte whole bs ≡ part (get_or bs 0 0) (between 1 (length bs) bs)
 byte_step whole [] h = absurd (omega arith)

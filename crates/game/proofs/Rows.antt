@@ -1,12 +1,12 @@
 -- Rows of formulas and of states: what the code passes is what the definition reads.
-use Rattle.std.proofs.Common.{◌≡◌, ℕ, zero, suc, ◌+◌, ◌-◌, ◌*◌, ◌<◌, Bool, true, false, cond, ltb, leb, List, [], ◌∷◌, length, get_or, take, drop, Ok, Err, Result, sym, refl, ap, ◌∙◌, sub-one, arith}
+use Rattle.std.proofs.Common.{◌≡◌, ℕ, zero, suc, ◌+◌, ◌-◌, ◌*◌, ◌<◌, Bool, true, false, cond, ltb, leb, List, [], ◌∷◌, length, take, drop, Ok, Err, Result, sym, refl, ap, ◌∙◌, arith}
 use Rattle.formula.specs.declared.scope.Scope.{Scope}
 use Rattle.formula.specs.declared.reading.Fault.{Fault}
 use Rattle.formula.specs.Reading.{reading}
 use Rattle.game.specs.declared.refusal.Refusal.{Refusal}
 use Rattle.game.specs.declared.reader.Reader.{Reader}
 use Rattle.game.specs.Content.{formulas_of, starts_of}
-use Rattle.game.specs.Reading.{Step, part, refused, then, many, judged, read_formula, read_start}
+use Rattle.game.specs.Reading.{Step, part, refused, many, judged, read_formula, read_start}
 use Rattle.game.specs.Parts.{Parted}
 
 -- one part more in front of the row

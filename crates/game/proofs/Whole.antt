@@ -4,7 +4,6 @@ use Rattle.std.proofs.lemmas.Bool.{leb-true}
 use Rattle.game.proofs.Rows.{no_refusal}
 use Rattle.formula.specs.declared.scope.Scope.{Scope}
 use Rattle.game.specs.declared.widths.Widths.{Widths}
-use Rattle.game.specs.declared.refusal.Refusal.{Refusal}
 use Rattle.game.specs.declared.refusal.Refusal.TheVariants.{GoesOn, Bits}
 use Rattle.game.specs.declared.rules.StepRules.{StepRules}
 use Rattle.game.specs.Content.{Content, state_scope, formulas_of, steps_of}

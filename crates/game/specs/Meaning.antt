@@ -2,7 +2,7 @@
 --   value_of       the value of a formula's bytes
 --   number         a number by its bits, the lowest first
 --   game_of        the game
-use Rattle.std.specs.Prelude.{ℕ, zero, suc, ◌+◌, ◌*◌, ◌^◌, Bool, true, false, cond, ◌&&◌, List, [], ◌∷◌, length, nat_lt, slice_index_or}
+use Rattle.std.specs.Prelude.{ℕ, ◌+◌, ◌*◌, ◌^◌, Bool, cond, ◌&&◌, List, [], ◌∷◌, length, nat_lt, slice_index_or}
 use Rattle.formula.specs.Trees.{meaning}
 use Rattle.formula.specs.Reading.{formula_of}
 use Rattle.game.specs.Game.{Game}

@@ -6,7 +6,7 @@
 --   read_start, -starts, -start-group  start states
 --   read_widths, read_steps, rules_in  the parts of the file, and the whole
 -- `whole` is the file's length throughout, so that a place is `whole` less the bytes left from there.
-use Rattle.std.specs.Prelude.{◌≡◌, ℕ, zero, suc, ◌+◌, ◌-◌, ◌*◌, ◌^◌, Bool, true, false, cond, ◌&&◌, List, [], ◌∷◌, length, take, drop, Ok, Err, Result, nat_le, nat_lt}
+use Rattle.std.specs.Prelude.{◌≡◌, ℕ, zero, suc, ◌+◌, ◌-◌, ◌*◌, ◌^◌, Bool, cond, ◌&&◌, List, [], ◌∷◌, length, take, drop, Ok, Err, Result, nat_le, nat_lt}
 use Rattle.formula.specs.declared.scope.Scope.{Scope}
 use Rattle.formula.specs.declared.reading.Fault.{Fault}
 use Rattle.formula.specs.declared.reading.Fault.TheVariants.{Symbol as Unfit, Short, Long}

@@ -1,4 +1,4 @@
-use Rattle.std.proofs.Common.{◌≡◌, ◌-◌, ap, ◌∙◌, arith}
+use Rattle.std.proofs.Common.{◌-◌, ap, ◌∙◌, arith}
 use Rattle.game.specs.Content.{nth_formula}
 use Rattle.game.proofs.Sections.{nth_step}
 use Rattle.game.proofs.section.+nth.Goals as goal

@@ -1,4 +1,4 @@
-use Rattle.std.proofs.Common.{◌≡◌, ℕ, ◌+◌, ◌-◌, ◌*◌, ◌<◌, Bool, true, false, cond, ap, ◌∙◌, arith}
+use Rattle.std.proofs.Common.{◌≡◌, ◌+◌, ◌-◌, ◌*◌, ◌<◌, cond, ap, ◌∙◌, arith}
 use Rattle.game.specs.Content.{first_formula, other_formulas, formulas_of}
 use Rattle.game.specs.Meaning.{value_of, number}
 use Rattle.game.proofs.Sections.{number_step, number_bound}

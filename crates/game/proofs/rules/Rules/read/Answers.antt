@@ -12,7 +12,7 @@ returns-in_err-widths c =
     let p = err_from_is_err_and c.from_residual.result c.from_residual.ensures.1 in
     let o =
     at_widths c.args.file.now _ c.in_err-widths.ensures in
-    rw (p.1, p.2) (record { outcome = o; valid = tt; again = tt; reads-written = none_valid c.args.file.now _ o })
+    rw (p.1, p.2) (record { outcome = o; valid = tt; again = tt; reads_written = none_valid c.args.file.now _ o })
 
 pub returns-in_err-steps : goal.returns-in_err-steps
 returns-in_err-steps c =
@@ -21,7 +21,7 @@ returns-in_err-steps c =
     let o =
     at_widths c.args.file.now _ c.in_ok-widths.ensures.0
     ∙ at_steps _ _ c.in_ok-widths.widths c.widths.new.self.rest.now _ n₁ c.in_err-steps.ensures.parts in
-    rw (p.1, p.2) (record { outcome = o; valid = tt; again = tt; reads-written = none_valid c.args.file.now _ o })
+    rw (p.1, p.2) (record { outcome = o; valid = tt; again = tt; reads_written = none_valid c.args.file.now _ o })
 
 pub returns-in_err-promises : goal.returns-in_err-promises
 returns-in_err-promises c =
@@ -32,7 +32,7 @@ returns-in_err-promises c =
     at_widths c.args.file.now _ c.in_ok-widths.ensures.0
     ∙ at_steps _ _ c.in_ok-widths.widths c.widths.new.self.rest.now _ n₁ c.in_ok-steps.ensures.parts.0
     ∙ at_promises _ _ c.in_ok-widths.widths c.state_scope.result (steps_of c.in_ok-steps.steps) c.steps.new.self.rest.now _ n₂ c.state_scope.ensures c.in_err-promises.ensures in
-    rw (p.1, p.2) (record { outcome = o; valid = tt; again = tt; reads-written = none_valid c.args.file.now _ o })
+    rw (p.1, p.2) (record { outcome = o; valid = tt; again = tt; reads_written = none_valid c.args.file.now _ o })
 
 pub returns-in_err-goals : goal.returns-in_err-goals
 returns-in_err-goals c =
@@ -45,7 +45,7 @@ returns-in_err-goals c =
     ∙ at_steps _ _ c.in_ok-widths.widths c.widths.new.self.rest.now _ n₁ c.in_ok-steps.ensures.parts.0
     ∙ at_promises _ _ c.in_ok-widths.widths c.state_scope.result (steps_of c.in_ok-steps.steps) c.steps.new.self.rest.now _ n₂ c.state_scope.ensures c.in_ok-promises.ensures.0
     ∙ at_goals _ _ c.in_ok-widths.widths c.state_scope-2.result (steps_of c.in_ok-steps.steps) (formulas_of c.in_ok-promises.promises.count c.in_ok-promises.promises.bytes.now) c.group.new.self.rest.now _ n₃ c.state_scope-2.ensures c.in_err-goals.ensures in
-    rw (p.1, p.2) (record { outcome = o; valid = tt; again = tt; reads-written = none_valid c.args.file.now _ o })
+    rw (p.1, p.2) (record { outcome = o; valid = tt; again = tt; reads_written = none_valid c.args.file.now _ o })
 
 pub returns-in_err-starts : goal.returns-in_err-starts
 returns-in_err-starts c =
@@ -60,7 +60,7 @@ returns-in_err-starts c =
     ∙ at_promises _ _ c.in_ok-widths.widths c.state_scope.result (steps_of c.in_ok-steps.steps) c.steps.new.self.rest.now _ n₂ c.state_scope.ensures c.in_ok-promises.ensures.0
     ∙ at_goals _ _ c.in_ok-widths.widths c.state_scope-2.result (steps_of c.in_ok-steps.steps) (formulas_of c.in_ok-promises.promises.count c.in_ok-promises.promises.bytes.now) c.group.new.self.rest.now _ n₃ c.state_scope-2.ensures c.in_ok-goals.ensures.0
     ∙ at_starts _ _ c.states.result c.in_ok-widths.widths (steps_of c.in_ok-steps.steps) (formulas_of c.in_ok-promises.promises.count c.in_ok-promises.promises.bytes.now) (formulas_of c.in_ok-goals.goals.count c.in_ok-goals.goals.bytes.now) c.group-2.new.self.rest.now _ n₄ (few_states c.states.ensures (widths_few _ c.args.file.now c.in_ok-widths.widths c.widths.new.self.rest.now c.in_ok-widths.ensures.0)) c.in_err-starts.ensures in
-    rw (p.1, p.2) (record { outcome = o; valid = tt; again = tt; reads-written = none_valid c.args.file.now _ o })
+    rw (p.1, p.2) (record { outcome = o; valid = tt; again = tt; reads_written = none_valid c.args.file.now _ o })
 
 pub returns-in_err-end : goal.returns-in_err-end
 returns-in_err-end c =
@@ -78,7 +78,7 @@ returns-in_err-end c =
     ∙ at_starts _ _ c.states.result c.in_ok-widths.widths (steps_of c.in_ok-steps.steps) (formulas_of c.in_ok-promises.promises.count c.in_ok-promises.promises.bytes.now) (formulas_of c.in_ok-goals.goals.count c.in_ok-goals.goals.bytes.now) c.group-2.new.self.rest.now _ n₄ (few_states c.states.ensures (widths_few _ c.args.file.now c.in_ok-widths.widths c.widths.new.self.rest.now c.in_ok-widths.ensures.0)) c.in_ok-starts.ensures.0
     ∙ at_more _ _ _ c.start_group.new.self.rest.now n₅ c.in_err-end.ensures.0
     ∙ ap refused (sym c.in_err-end.ensures.1) in
-    rw (p.1, p.2) (record { outcome = o; valid = tt; again = tt; reads-written = none_valid c.args.file.now _ o })
+    rw (p.1, p.2) (record { outcome = o; valid = tt; again = tt; reads_written = none_valid c.args.file.now _ o })
 
 pub returns : goal.returns
 returns c =
@@ -95,4 +95,4 @@ returns c =
     ∙ at_starts _ _ c.states.result c.in_ok-widths.widths (steps_of c.in_ok-steps.steps) (formulas_of c.in_ok-promises.promises.count c.in_ok-promises.promises.bytes.now) (formulas_of c.in_ok-goals.goals.count c.in_ok-goals.goals.bytes.now) c.group-2.new.self.rest.now _ n₄ (few_states c.states.ensures (widths_few _ c.args.file.now c.in_ok-widths.widths c.widths.new.self.rest.now c.in_ok-widths.ensures.0)) c.in_ok-starts.ensures.0
     ∙ at_end _ c.in_ok-widths.widths c.in_ok-steps.steps (formulas_of c.in_ok-promises.promises.count c.in_ok-promises.promises.bytes.now) (formulas_of c.in_ok-goals.goals.count c.in_ok-goals.goals.bytes.now) (starts_of c.in_ok-starts.starts.count c.in_ok-starts.starts.bytes.now) c.start_group.new.self.rest.now c.in_ok-end.ensures (widths_few _ c.args.file.now c.in_ok-widths.widths c.widths.new.self.rest.now c.in_ok-widths.ensures.0) c.in_ok-steps.ensures.count in
     let w = read_written c.args.file.now _ (slice_bytes c.args.file.now c.type_inv.file) o in
-    record { outcome = o; valid = w.0; again = w.1; reads-written = λ d. only_one c.args.file.now _ d o }
+    record { outcome = o; valid = w.0; again = w.1; reads_written = λ d. only_one c.args.file.now _ d o }

@@ -1,4 +1,4 @@
-use Rattle.std.proofs.Common.{◌≡◌, ◌∙◌, arith}
+use Rattle.std.proofs.Common.{◌∙◌}
 use Rattle.game.proofs.Sections.{nth_get_or, none_get_or}
 use Rattle.game.proofs.rules.Section.formula.Goals as goal
 

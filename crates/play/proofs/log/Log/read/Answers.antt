@@ -10,12 +10,12 @@ returns-then-bytes-lt2 c =
       | then-bytes-lt2-via-then-bytes-lt2 w ↦
           record {
             outcome = (too_short bs w.if-bytes-lt2.true, refl);
-            reads-written = λ p e. let s = shaped p bs e in omega (arith, w.if-bytes-lt2.true);
+            reads_written = λ p e. let s = shaped p bs e in omega (arith, w.if-bytes-lt2.true);
           }
       | then-bytes-lt2-via-else-bytes-lt2+then-bytes-eq1 w ↦
           record {
             outcome = (half_step bs w.if-bytes-eq1.true, refl);
-            reads-written = λ p e. let s = shaped p bs e in omega (arith, w.if-bytes-eq1.true);
+            reads_written = λ p e. let s = shaped p bs e in omega (arith, w.if-bytes-eq1.true);
           }
     ]
 
@@ -29,5 +29,5 @@ returns c =
         well_shaped bs c.if-bytes-lt2.false c.if-bytes-eq1.false,
         read_again bs front back c.split_at.ensures.front c.split_at.ensures.back c.if-bytes-lt2.false c.if-bytes-eq1.false (λ i. (c.type_inv.bytes i).fits),
       );
-      reads-written = λ p e. read_written p bs front back e c.split_at.ensures.front c.split_at.ensures.back;
+      reads_written = λ p e. read_written p bs front back e c.split_at.ensures.front c.split_at.ensures.back;
     }
