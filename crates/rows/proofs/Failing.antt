@@ -5,7 +5,7 @@
 --   at-start, at_end, decides_verdict, sized       which verdict it is, and when it is acceptance
 --   below, not_below, guard_then, guard_else       comparisons in the code
 --   under, implied, implies_by, and_assoc  tests that are asked only where another is true
-use Rattle.std.proofs.Common.{◌≡◌, ℕ, zero, suc, ◌+◌, ◌^◌, ◌<◌, ◌≤◌, Bool, true, false, cond, ◌&&◌, ltb, ◌⊎◌, List, length, is_ok, Some, None, Ok, Err, Decides, Option, sym, refl, ap, ◌∙◌, inl, inr, ⊎_elim, add-one, arith}
+use Rattle.std.proofs.Common.{◌≡◌, ℕ, zero, suc, ◌+◌, ◌^◌, ◌<◌, ◌≤◌, Bool, true, false, cond, ◌&&◌, ltb, List, length, is_ok, Some, None, Ok, Err, Decides, Option, sym, refl, ap, ◌∙◌, ⊎_elim, add-one, arith}
 use Rattle.std.proofs.lemmas.Bool.{cases_lt, lt-ltb, le-ltb, ltb-true, ltb-false, and_left, and_right, false≢true}
 use Rattle.game.specs.declared.refusal.Refusal.{Refusal}
 use Rattle.game.specs.declared.refusal.Refusal.TheVariants.{UnknownStart, CutOff, GoesOn}

@@ -2,7 +2,7 @@
 --   rows_fit, row_fits, few    places and counts fit
 --   no_row, cut_row, row_is    what the code cuts out is the row; a row that holds something is one of the grid's
 --   nth_start, no_start, length_starts, length_formulas   starts stand where they are read, and there are as many as counted
-use Rattle.std.proofs.Common.{◌≡◌, ℕ, zero, suc, ◌+◌, ◌*◌, ◌^◌, ◌<◌, ◌≤◌, min, Bool, true, false, cond, ◌&&◌, ltb, ◌⊎◌, List, [], ◌∷◌, length, get_or, take, drop, sym, refl, ap, ◌∙◌, ⊎_elim, mul-add, arith}
+use Rattle.std.proofs.Common.{◌≡◌, ℕ, zero, suc, ◌+◌, ◌*◌, ◌^◌, ◌<◌, ◌≤◌, min, Bool, true, false, cond, ◌&&◌, ltb, ◌⊎◌, List, [], length, get_or, take, drop, sym, refl, ap, ◌∙◌, ⊎_elim, arith}
 use lib.Pow.{pow-lt}
 use Rattle.std.proofs.lemmas.Nat.{mul-le}
 use Rattle.std.proofs.lemmas.List.{get_or-drop}

@@ -1,7 +1,7 @@
 -- Rows written one after the other are read again, and rows that were read are written again.
-use Rattle.std.proofs.Common.{◌≡◌, ℕ, zero, suc, ◌+◌, ◌-◌, ◌*◌, ◌<◌, ◌≤◌, true, cond, ◌&&◌, ltb, List, [], ◌∷◌, ◌++◌, length, get_or, take, drop, sym, refl, ap, ◌∙◌, ⊎_elim, mul_assoc, suc-mul, mul_comm, add-mul, arith}
+use Rattle.std.proofs.Common.{◌≡◌, ℕ, zero, suc, ◌+◌, ◌-◌, ◌*◌, ◌<◌, ◌≤◌, ◌&&◌, ltb, List, [], ◌∷◌, ◌++◌, length, get_or, take, drop, sym, refl, ap, ◌∙◌, ⊎_elim, mul_assoc, suc-mul, mul_comm, add-mul, arith}
 use Rattle.std.proofs.lemmas.Nat.{mul-le, mul-add-lt}
-use Rattle.std.proofs.lemmas.List.{get_or-take, get_or-drop, length-append, length-drop, length-take-le, take_all, take_at, drop_at, take-append-le, drop-append-le, take-append-drop, drop-drop, take-take, drop-take}
+use Rattle.std.proofs.lemmas.List.{get_or-take, get_or-drop, length-append, length-drop, length-take-le, take_all, drop_at, take-append-le, drop-append-le, drop-drop, take-take, drop-take}
 use Rattle.std.proofs.lemmas.Bool.{cases_lt, lt-ltb, and_from, cond-true}
 use Rattle.rows.specs.declared.row.Grid.{Grid}
 use Rattle.rows.specs.Rows.{length_of, row_at}

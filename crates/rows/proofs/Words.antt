@@ -1,13 +1,11 @@
 -- Words by their lanes: a column of bits, one lane more in front, and the number that a lane spells.
-use Rattle.std.proofs.Common.{◌≡◌, ℕ, zero, suc, ◌+◌, ◌-◌, ◌*◌, ◌/◌, ◌%◌, ◌^◌, ◌<◌, ◌≤◌, min, Bool, true, false, cond, eqb, ◌⊎◌, List, [], ◌∷◌, length, get_or, set, sym, refl, ap, ◌∙◌, inl, inr, ⊎_elim, pow-suc, arith, length-set, get_or-set_other, get_or-set_same, pow_mono, shr-shr}
-use Rattle.std.proofs.lemmas.Bool.{cases_lt, cases_eq}
+use Rattle.std.proofs.Common.{◌≡◌, ℕ, zero, suc, ◌+◌, ◌-◌, ◌*◌, ◌/◌, ◌%◌, ◌^◌, ◌<◌, ◌≤◌, cond, eqb, List, [], ◌∷◌, length, get_or, set, sym, refl, ap, ◌∙◌, ⊎_elim, pow-suc, arith, length-set, get_or-set_other, get_or-set_same, pow_mono, shr-shr}
+use Rattle.std.proofs.lemmas.Bool.{cases_eq}
 use Rattle.formula.specs.Bits.{bit}
-use Rattle.formula.specs.Trees.{meaning}
 use Rattle.formula.specs.Values.{Values}
 use Rattle.formula.specs.Reading.{formula_of}
-use Rattle.game.specs.Content.{Content, formulas_of}
+use Rattle.game.specs.Content.{Content}
 use Rattle.game.specs.Meaning.{value_of, number}
-use Rattle.game.proofs.Sections.{nth_get_or}
 use Rattle.formula.proofs.Planted.{zero_lane}
 use Rattle.std.specs.List.{between}
 use Rattle.formula.proofs.Rest.{rest_of}

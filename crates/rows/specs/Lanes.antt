@@ -1,7 +1,7 @@
 -- The lanes of words. Assumes nothing.
 --   lane_number  the number that a lane spells, the lowest bit in the first word
 --   Afters       words spell the states after the steps of the lanes
-use Rattle.std.specs.Prelude.{◌≡◌, ℕ, ◌+◌, ◌*◌, ◌<◌, cond, List, [], ◌∷◌, length}
+use Rattle.std.specs.Prelude.{◌≡◌, ℕ, ◌+◌, ◌*◌, ◌<◌, cond, List, [], ◌∷◌}
 use Rattle.formula.specs.Bits.{bit}
 use Rattle.game.specs.Content.{Content}
 use Rattle.game.specs.Meaning.{game_of}

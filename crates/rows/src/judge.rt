@@ -50,7 +50,7 @@ fn start(starts: Starts, i: u8) -> u16
 // The first state whose rows do not hold together.
 fn first_fault<R: Reasons>(reasons: &R, states: u32) -> Option<u16>
     requires { states ≤ 65536 }
-    ensures { result ≡ first_failing states (sound reasons.now) }
+    ensures { result ≡ first_failing states (R.sound reasons.now) }
 {
     for state in 0..states {
         if !reasons.holds(state as u16) {
@@ -62,7 +62,7 @@ fn first_fault<R: Reasons>(reasons: &R, states: u32) -> Option<u16>
 
 // The number of the first start that is not known.
 fn first_unknown<R: Reasons>(reasons: &R, starts: Starts) -> Option<u8>
-    ensures { result ≡ first_failing starts.entry.count (start_known (aware reasons.now) (starts_of starts.entry.count starts.entry.bytes.now)) }
+    ensures { result ≡ first_failing starts.entry.count (start_known (R.aware reasons.now) (starts_of starts.entry.count starts.entry.bytes.now)) }
 {
     for i in 0..starts.count {
         if !reasons.knows(start(starts, i)) {
@@ -75,7 +75,7 @@ fn first_unknown<R: Reasons>(reasons: &R, starts: Starts) -> Option<u8>
 // How many states are known.
 fn count_known<R: Reasons>(reasons: &R, states: u32) -> u32
     requires { states ≤ 65536 }
-    ensures { result ≡ count_of states (aware reasons.now) }
+    ensures { result ≡ count_of states (R.aware reasons.now) }
 {
     let mut known = 0;
     for state in 0..states {
@@ -88,7 +88,7 @@ fn count_known<R: Reasons>(reasons: &R, states: u32) -> u32
 
 // The first fault, state by state and then start by start; or how many states are known.
 pub fn verdict<R: Reasons>(rules: &Rules, reasons: &R) -> Result<Accepted, Refusal>
-    ensures { result ≡ verdict_of (content rules.now) (sound reasons.now) (aware reasons.now) (blame reasons.now) }
+    ensures { result ≡ verdict_of (content rules.now) (R.sound reasons.now) (R.aware reasons.now) (R.blame reasons.now) }
 {
     let states = rules.widths.states();
     if let Some(state) = first_fault(reasons, states) {

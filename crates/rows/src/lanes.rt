@@ -50,7 +50,7 @@ pub fn lane_number(words: &[u64], l: u8) -> u16
 
 // The states after the steps of the lanes: word i has bit i of each.
 pub fn afters<L: Lanes>(rules: &Rules, lanes: &L) -> [u64; 12]
-    ensures { Afters (content rules.now) (states lanes.now) (moves lanes.now) (answers lanes.now) result }
+    ensures { Afters (content rules.now) (L.states lanes.now) (L.moves lanes.now) (L.answers lanes.now) result }
 {
     let mut words = [0u64; 12];
     for i in 0..rules.steps.next.count.min(STATE_BITS) {

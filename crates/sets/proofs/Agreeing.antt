@@ -2,19 +2,18 @@
 --   tabulated      the five tables, by state, move and answer
 --   next_within    every entry of the table of states after is a state
 --   arena_agrees   the arena over the tables agrees with the game
-use Rattle.std.proofs.Common.{◌≡◌, ℕ, zero, suc, ◌+◌, ◌*◌, ◌/◌, ◌%◌, ◌^◌, ◌<◌, ◌≤◌, Bool, true, false, cond, ◌&&◌, ltb, List, [], ◌∷◌, length, get_or, sym, refl, ap, ◌∙◌, subst, ⊎_elim, arith, pow_mono, ltb-true, lt-ltb}
+use Rattle.std.proofs.Common.{◌≡◌, ℕ, ◌+◌, ◌*◌, ◌/◌, ◌%◌, ◌^◌, ◌<◌, ◌≤◌, Bool, true, false, cond, ◌&&◌, ltb, List, length, get_or, sym, refl, ap, ◌∙◌, subst, ⊎_elim, arith, pow_mono, ltb-true}
 use Rattle.std.proofs.lemmas.Nat.{pow_pos, div_below, mod_below, div-mul-add, mod-mul-add, div-add-mod'}
 use Rattle.std.proofs.lemmas.List.{get_or_past}
 use Rattle.std.proofs.lemmas.Bool.{cases_lt, and_parts}
 use Rattle.formula.specs.Bits.{bit}
-use Rattle.game.specs.Game.{Game}
-use Rattle.game.specs.Content.{Content, Valid, formulas_of, other_formulas}
-use Rattle.game.specs.Meaning.{value_of, number, game_of}
+use Rattle.game.specs.Content.{Content, Valid}
+use Rattle.game.specs.Meaning.{number, game_of}
 use Rattle.game.specs.Agree.{Agree}
 use Rattle.sets.specs.declared.arena.Arena.{Arena}
 use Rattle.sets.specs.Arena.{arena_game}
-use Rattle.sets.specs.Tabulate.{LegalTable, allowed_at, AllowedTable, next_at, NextTable, holds_of, StateTable, state_count, move_count, answer_count, Sized, Tabulated}
-use Rattle.sets.proofs.Arenas.{legal_bit, allowed_bit, place_move, place_answer, move_below, answer_below}
+use Rattle.sets.specs.Tabulate.{LegalTable, AllowedTable, NextTable, holds_of, StateTable, state_count, move_count, answer_count, Sized, Tabulated}
+use Rattle.sets.proofs.Arenas.{legal_bit, allowed_bit, place_move, move_below, answer_below}
 use Rattle.sets.proofs.Packings.{number_below, pick_below}
 
 -- a word has room for every move and every answer

@@ -4,10 +4,9 @@
 --   move_below, answer_below    legal moves and allowed answers are in range
 --   after_below                 the state after is a state
 --   promises_is, goals_is       how many promises and goals there are
-use Rattle.std.proofs.Common.{◌≡◌, ℕ, ◌+◌, ◌*◌, ◌<◌, ◌≤◌, Bool, true, false, ◌&&◌, eqb, ltb, length, get_or, sym, refl, ap, ◌∙◌, subst, mul_comm, arith, ltb-true, lt-ltb}
+use Rattle.std.proofs.Common.{◌≡◌, ℕ, ◌+◌, ◌*◌, ◌<◌, true, ltb, get_or, refl, subst, mul_comm, ltb-true, lt-ltb}
 use Rattle.std.proofs.lemmas.Nat.{mul-add-lt}
 use Rattle.std.proofs.lemmas.Bool.{and_parts}
-use Rattle.game.specs.Game.{Game}
 use Rattle.sets.specs.Arena.{arena_game, bit}
 use Rattle.sets.specs.declared.arena.Arena.{Arena}
 

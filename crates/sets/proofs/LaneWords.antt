@@ -1,5 +1,5 @@
 -- Words of lanes: the lanes that are in range, and what a mask leaves of values.
-use Rattle.std.proofs.Common.{◌≡◌, ℕ, ◌^◌, ◌<◌, Bool, true, false, ◌&&◌, ltb, List, [], ◌∷◌, get_or, sym, refl, ap, ◌∙◌, lt-ltb}
+use Rattle.std.proofs.Common.{◌≡◌, ℕ, ◌^◌, ◌<◌, Bool, true, false, ◌&&◌, ltb, List, [], ◌∷◌, get_or, refl, lt-ltb}
 use lib.Bits.{bit_and}
 use Rattle.formula.specs.Bits.{bit}
 use Rattle.formula.specs.Values.{Spread}

@@ -1,9 +1,8 @@
 -- The laws of `member`.
 --   member_put     what one write to a cell does
 --   member_below   a member is within the room
-use Rattle.std.proofs.Common.{◌≡◌, ℕ, ◌<◌, ◌≤◌, Bool, true, false, eqb, ◌⊎◌, List, length, get_or, set, replicate, sym, refl, ap, ◌∙◌, subst, inl, inr, ⊎_elim, arith, length-set, eq-eqb, ne_eqb, eqb-true}
+use Rattle.std.proofs.Common.{◌≡◌, ℕ, ◌<◌, Bool, true, false, eqb, ◌⊎◌, List, length, get_or, set, replicate, refl, ap, ◌∙◌, inl, inr, ⊎_elim, arith, length-set, eq-eqb, ne_eqb, eqb-true}
 use mir.Val.{bool_byte}
-use borrow.Author.Tests.{eqb-false}
 use Rattle.std.proofs.lemmas.List.{get_or-set_same, get_or-set_other, get_or_past, get_or-replicate}
 use Rattle.std.proofs.lemmas.Bool.{cases_eq, cases_lt}
 use Rattle.game.specs.Game.{pick}

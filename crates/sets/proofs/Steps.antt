@@ -2,7 +2,7 @@
 --   cpre_mono   a weaker fact is as easy to make sure of; the state after is below the bound
 use Rattle.std.proofs.Common.{ℕ, ◌<◌}
 use Rattle.game.specs.Game.{Game}
-use Rattle.sets.specs.Step.{Cpre, Forced}
+use Rattle.sets.specs.Step.{Cpre}
 
 pub cpre_mono : (g : Game) (P Q : ℕ → Type 0) (s : ℕ) → ((t : ℕ) → P t → Q t) → Cpre g P s → Cpre g Q s
 unfolding Cpre

@@ -4,7 +4,7 @@
 --   room         how many states the cells can hold
 --   Put          one set from another, by putting a state in or taking it out
 --   Filled       every state put in, or taken out
-use Rattle.std.specs.Prelude.{◌≡◌, ℕ, ◌<◌, Bool, true, false, List, length, ◌==◌, slice_index}
+use Rattle.std.specs.Prelude.{◌≡◌, ℕ, ◌<◌, Bool, true, List, length, ◌==◌, slice_index}
 use Rattle.game.specs.Game.{pick}
 
 abbrev pub Set : Type 0

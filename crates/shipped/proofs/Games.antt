@@ -1,7 +1,7 @@
 -- The shipped games, by their computed tests.
 --   shipped_games  the theorem
 -- What the bytes say is computed by the reading itself, and each `refl` after that is a test that comes out true.
-use Rattle.std.proofs.Common.{◌≡◌, ◌<◌, true, refl, arith}
+use Rattle.std.proofs.Common.{refl, arith}
 use Rattle.std.proofs.lemmas.Bool.{false≢true, ltb-true, eqb-true}
 use Rattle.formula.specs.Reading.{forest}
 use Rattle.game.specs.Game.{goal_after}

@@ -4,7 +4,7 @@
 --   c1_counter, e_counter, g_counter  the games that are lost everywhere
 --   f_plan, f_counter                 the game that is won in one state and lost in the other
 -- A state is a number; the bit that a game's text names first is bit 0.
-use Rattle.std.specs.Prelude.{ℕ, ◌+◌, ◌-◌, ◌*◌, ◌%◌, ◌^◌, true, false, ◌||◌, ◌==◌, nat_lt}
+use Rattle.std.specs.Prelude.{ℕ, ◌+◌, ◌-◌, ◌*◌, ◌%◌, ◌^◌, false, ◌||◌, ◌==◌, nat_lt}
 use Rattle.formula.specs.Bits.{bit}
 use Rattle.game.specs.Game.{pick}
 use Rattle.game.specs.Plan.{Plan}

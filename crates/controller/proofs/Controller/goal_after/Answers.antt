@@ -4,7 +4,7 @@ use Rattle.game.proofs.Appending.{formulas_count}
 use Rattle.controller.specs.Steps.{game_in}
 use Rattle.controller.proofs.Turning.{stays, starts_again, turns, none}
 use Rattle.controller.proofs.Controller.goal_after.Goals as goal
-use Rattle.controller.proofs.Controller.goal_after.Goals.{then-self-goals-via-then-self-goals, then-self-goals-via-else-self-goals+then-not-goal-holds}
+use Rattle.controller.proofs.Controller.goal_after.Goals.{then-self-goals-via-then-self-goals, then-self-goals-via-else-self-goals+then-not-goal_holds}
 
 pub returns-then-self-goals : goal.returns-then-self-goals
 returns-then-self-goals c =
@@ -14,7 +14,7 @@ returns-then-self-goals c =
       | then-self-goals-via-then-self-goals w ↦
           stays (game_in me) me.goal me.state
           (none (content me.rules).goals me.goal me.state (omega (arith, many, w.if-self-goals.true)))
-      | then-self-goals-via-else-self-goals+then-not-goal-holds w ↦
+      | then-self-goals-via-else-self-goals+then-not-goal_holds w ↦
           stays (game_in me) me.goal me.state (sym w.goal_holds.ensures ∙ w.if-not-goal_holds.true)
     ]
 

@@ -1,4 +1,4 @@
-use Rattle.std.proofs.Common.{sym, ◌∙◌}
+use Rattle.std.proofs.Common.{sym}
 use Rattle.rows.proofs.Failing.{none_more, found}
 use Rattle.rows.proofs.judge.first_fault.Goals as goal
 

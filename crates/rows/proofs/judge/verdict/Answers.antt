@@ -1,4 +1,3 @@
-use Rattle.std.proofs.Common.{sym, ap, ◌∙◌}
 use Rattle.game.specs.Content.{content}
 use Rattle.rows.proofs.Failing.{at-start, at_end}
 use Rattle.rows.proofs.Fitting.{length_starts}

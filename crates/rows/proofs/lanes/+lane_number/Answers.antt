@@ -1,6 +1,6 @@
 use Rattle.std.proofs.Common.{◌≡◌, ◌<◌, cond, length, ap, ◌∙◌, arith, pow_pos}
 use Rattle.std.proofs.lemmas.Bool.Decides.{nat_tests}
-use Rattle.rows.proofs.Words.{spells_none, Spells, spells_more}
+use Rattle.rows.proofs.Words.{spells_none, spells_more}
 use Rattle.rows.proofs.lanes.+lane_number.Goals as goal
 use Rattle.rows.proofs.lanes.+lane_number.Goals.{then-lane, else-lane}
 

@@ -1,4 +1,4 @@
-use Rattle.std.proofs.Common.{◌≡◌, ◌<◌, min, sym, ap, ◌∙◌, arith}
+use Rattle.std.proofs.Common.{◌<◌, min, sym, ◌∙◌, arith}
 use Rattle.game.specs.Content.{content}
 use Rattle.game.proofs.Sections.{nth_get_or}
 use Rattle.rows.proofs.Fitting.{length_formulas}

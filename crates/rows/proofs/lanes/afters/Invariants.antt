@@ -1,4 +1,3 @@
-use Rattle.std.proofs.Common.{◌≡◌, length}
 use Rattle.game.specs.Content.{content}
 use Rattle.rows.proofs.Words.{Filled}
 use Rattle.rows.proofs.lanes.afters.Given as goal

@@ -1,4 +1,4 @@
-use Rattle.std.proofs.Common.{◌≡◌, ◌+◌, ◌-◌, ◌/◌, ◌%◌, ◌^◌, ◌<◌, get_or, sym, ap, ◌∙◌, arith}
+use Rattle.std.proofs.Common.{◌≡◌, ◌+◌, ◌-◌, ◌/◌, ◌%◌, ◌^◌, get_or, ap, ◌∙◌, arith}
 use Rattle.formula.specs.Bits.{bit}
 use Rattle.rows.proofs.Words.{bytes_from, column_none, column_more, column_fits}
 use Rattle.rows.proofs.lanes.column.Goals as goal

@@ -1,4 +1,4 @@
-use Rattle.std.proofs.Common.{◌≡◌, ◌%◌, ◌^◌, ◌<◌, sym, ap, arith, pow_mono}
+use Rattle.std.proofs.Common.{◌%◌, ◌^◌, ◌<◌, sym, ap, arith, pow_mono}
 use native.Mathlib.Nat.{div-eq_of_lt}
 use Rattle.rows.proofs.lanes.digit.Goals as goal
 

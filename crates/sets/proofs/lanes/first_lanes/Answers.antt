@@ -1,4 +1,4 @@
-use Rattle.std.proofs.Common.{◌^◌, ◌<◌, min, ltb, ap, ◌∙◌, arith}
+use Rattle.std.proofs.Common.{◌^◌, ltb, ap, ◌∙◌, arith}
 use Rattle.sets.proofs.LaneWords.{first_lanes}
 use Rattle.sets.proofs.lanes.first_lanes.Goals as goal
 

@@ -1,4 +1,4 @@
-use Rattle.std.proofs.Common.{◌^◌, ◌<◌, min, arith}
+use Rattle.std.proofs.Common.{◌^◌, min, arith}
 use Rattle.game.specs.Meaning.{value_of}
 use Rattle.sets.proofs.LaneWords.{legal_word}
 use Rattle.sets.proofs.lanes.legal_moves.Goals as goal

@@ -1,4 +1,4 @@
-use Rattle.std.proofs.Common.{◌≡◌, ◌-◌, ◌<◌, ◌≤◌, arith}
+use Rattle.std.proofs.Common.{◌-◌, arith}
 use lib.Bits.{bit_and}
 use Rattle.sets.proofs.Packings.{spelt_more, spelt_fits}
 use Rattle.sets.proofs.packed.+spell.Goals as goal

@@ -1,4 +1,4 @@
-use Rattle.std.proofs.Common.{◌≡◌, ◌+◌, ◌*◌, ◌<◌, get_or, ap, arith}
+use Rattle.std.proofs.Common.{◌+◌, ◌*◌, get_or, ap, arith}
 use Rattle.sets.proofs.Packings.{half_none, half_more}
 use Rattle.sets.proofs.packed.double.Goals as goal
 

@@ -1,4 +1,4 @@
-use Rattle.std.proofs.Common.{sym, arith}
+use Rattle.std.proofs.Common.{arith}
 use Rattle.sets.proofs.Members.{member_filled}
 use Rattle.sets.proofs.set.fill.Goals as goal
 

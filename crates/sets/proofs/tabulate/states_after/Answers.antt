@@ -1,4 +1,4 @@
-use Rattle.std.proofs.Common.{◌≡◌, ◌/◌, ◌%◌, ◌<◌, min, get_or, ap, ◌∙◌, arith}
+use Rattle.std.proofs.Common.{◌≡◌, ◌/◌, ◌%◌, get_or, ◌∙◌, arith}
 use Rattle.sets.specs.Packed.{field}
 use Rattle.sets.proofs.Packings.{field_spelt}
 use Rattle.sets.proofs.Tables.{entry_more}

@@ -1,4 +1,4 @@
-use Rattle.std.proofs.Common.{◌≡◌, ◌<◌, ◌≤◌, min, length, get_or, sym, ◌∙◌, subst, arith}
+use Rattle.std.proofs.Common.{◌≡◌, ◌<◌, min, length, get_or, sym, ◌∙◌, subst, arith}
 use Rattle.std.proofs.lemmas.Nat.{pow_pos}
 use Rattle.game.specs.Content.{content}
 use Rattle.sets.proofs.Agreeing.{filled, computed_moves, computed_answers, next_within, arena_agrees}
@@ -19,46 +19,21 @@ invariant_of-result c =
     c.requires.sound c.requires.room
     c.tabulate_legal.auto.legal c.tabulate_allowed.auto.allowed c.tabulate_next.auto.next c.tabulate_states.auto.table c.tabulate_states-2.auto.table
     c.tabulate_legal.ensures c.tabulate_allowed.ensures c.tabulate_next.ensures c.tabulate_states.ensures c.tabulate_states-2.ensures in
-    let z = t.0 in (
-      subst (λ n. 0 < n) (sym c.states.ensures) (pow_pos (min r.widths.state 12)),
-      (
-        omega (arith, c.states.ensures, most_states r.widths.state),
-        (
-          omega (arith, c.moves.ensures, most_moves r.widths.moves),
-          (
-            omega (arith, c.answers.ensures, most_moves r.widths.answer),
-            (
-              omega (arith, v.few_promises, promises),
-              (
-                omega (arith, v.some_goal, goals),
-                (
-                  omega (arith, v.few_goals, goals),
-                  (
-                    z.legal_size ∙ sym c.states.ensures,
-                    (
-                      computed_moves _ _ _ _ _ z.allowed_size c.states.ensures c.moves.ensures,
-                      (
-                        computed_answers _ _ _ _ _ _ _ z.next_size c.states.ensures c.moves.ensures c.answers.ensures,
-                        (
-                          z.promises_size ∙ sym c.states.ensures,
-                          (
-                            z.goals_size ∙ sym c.states.ensures,
-                            (
-                              λ k. subst (λ n. get_or c.tabulate_next.new.next k 0 < n) (sym c.states.ensures) (next_within (content r) _ _ _ _ _ v z.next_size t.1 k),
-                              tt,
-                            ),
-                          ),
-                        ),
-                      ),
-                    ),
-                  ),
-                ),
-              ),
-            ),
-          ),
-        ),
-      ),
-    )
+    let z = t.0 in record {
+      some_states = subst (λ n. 0 < n) (sym c.states.ensures) (pow_pos (min r.widths.state 12));
+      most_states = omega (arith, c.states.ensures, most_states r.widths.state);
+      most_moves = omega (arith, c.moves.ensures, most_moves r.widths.moves);
+      most_answers = omega (arith, c.answers.ensures, most_moves r.widths.answer);
+      most_promises = omega (arith, v.few_promises, promises);
+      some_goals = omega (arith, v.some_goal, goals);
+      most_goals = omega (arith, v.few_goals, goals);
+      legal_length = z.legal_size ∙ sym c.states.ensures;
+      allowed_length = computed_moves _ _ _ _ _ z.allowed_size c.states.ensures c.moves.ensures;
+      next_length = computed_answers _ _ _ _ _ _ _ z.next_size c.states.ensures c.moves.ensures c.answers.ensures;
+      promises_length = z.promises_size ∙ sym c.states.ensures;
+      goals_length = z.goals_size ∙ sym c.states.ensures;
+      next_within = λ k. subst (λ n. get_or c.tabulate_next.new.next k 0 < n) (sym c.states.ensures) (next_within (content r) _ _ _ _ _ v z.next_size t.1 k);
+    }
 
 pub returns : goal.returns
 returns c =

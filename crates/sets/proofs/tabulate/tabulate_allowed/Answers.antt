@@ -1,4 +1,4 @@
-use Rattle.std.proofs.Common.{◌≡◌, ◌*◌, ◌/◌, ◌%◌, ◌^◌, ◌<◌, ◌≤◌, min, get_or, sym, subst, arith}
+use Rattle.std.proofs.Common.{◌/◌, ◌%◌, ◌^◌, min, get_or, sym, subst, arith}
 use Rattle.formula.specs.Values.{Spread}
 use Rattle.game.specs.Content.{content}
 use Rattle.game.specs.Meaning.{game_of}

@@ -1,5 +1,4 @@
-use Rattle.std.proofs.Common.{ℕ, ◌/◌, ◌%◌, ◌^◌, ◌<◌, ◌&&◌, get_or}
-use Rattle.formula.specs.Bits.{bit}
+use Rattle.std.proofs.Common.{ℕ, ◌<◌, get_or}
 use Rattle.formula.specs.Values.{Spread}
 use Rattle.game.specs.Content.{content}
 use Rattle.game.specs.Meaning.{game_of}

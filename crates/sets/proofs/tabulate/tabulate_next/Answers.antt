@@ -1,4 +1,4 @@
-use Rattle.std.proofs.Common.{◌≡◌, ℕ, ◌+◌, ◌*◌, ◌/◌, ◌%◌, ◌^◌, ◌<◌, ◌≤◌, min, length, get_or, ◌∙◌, subst, arith, rules}
+use Rattle.std.proofs.Common.{◌≡◌, ℕ, ◌+◌, ◌*◌, ◌^◌, ◌<◌, ◌≤◌, min, length, get_or, ◌∙◌, subst, arith, rules}
 use Rattle.game.specs.Content.{content}
 use Rattle.game.specs.Meaning.{game_of}
 use Rattle.sets.specs.Tabulate.{next_at}

@@ -6,13 +6,13 @@ use Rattle.sets.proofs.Arenas.{answer_below}
 use Rattle.solver.specs.Choice.{Open}
 use Rattle.solver.specs.Reasons.{cell}
 use Rattle.solver.proofs.moves.all_free.Goals as goal
-use Rattle.solver.proofs.moves.all_free.Goals.{else-is-allowed-via-then-is-allowed+else-not-is-free, else-is_allowed-via-else-is_allowed}
+use Rattle.solver.proofs.moves.all_free.Goals.{else-is_allowed-via-then-is_allowed+else-not-is_free, else-is_allowed-via-else-is_allowed}
 
 pub loop-a-preserved : goal.loop-a-preserved
 loop-a-preserved c =
     below_more _ _ c.loop-a.invariant
     (elim c.else-is_allowed.branch [
-      | else-is-allowed-via-then-is-allowed+else-not-is-free w ↦
+      | else-is_allowed-via-then-is_allowed+else-not-is_free w ↦
           λ _.
           subst (λ (t : ℕ). Open (arena_game c.args.arena) (member c.args.zone.now) (cell c.args.layers.now) (cell c.args.avoids.now) (cell c.args.turns.now) c.args.i c.args.s t)
           w.after.ensures.is (w.is_free.ensures.0 w.if-not-is_free.false)

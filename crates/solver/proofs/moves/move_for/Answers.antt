@@ -3,13 +3,13 @@ use borrow.Author.Tests.{clash}
 use Rattle.sets.specs.Step.{Cpre}
 use Rattle.sets.proofs.Arenas.{move_below}
 use Rattle.solver.proofs.moves.move_for.Goals as goal
-use Rattle.solver.proofs.moves.move_for.Goals.{else-is-legal-via-then-is-legal+else-all-free, else-is_legal-via-else-is_legal}
+use Rattle.solver.proofs.moves.move_for.Goals.{else-is_legal-via-then-is_legal+else-all_free, else-is_legal-via-else-is_legal}
 
 pub loop-e-preserved : goal.loop-e-preserved
 loop-e-preserved c =
     below_more _ _ c.loop-e.invariant
     (elim c.else-is_legal.branch [
-      | else-is-legal-via-then-is-legal+else-all-free w ↦ λ _. w.if-all_free.ensures
+      | else-is_legal-via-then-is_legal+else-all_free w ↦ λ _. w.if-all_free.ensures
       | else-is_legal-via-else-is_legal w ↦ λ h. absurd (clash (sym w.if-is_legal.false ∙ (c.is_legal.ensures ∙ h)))
     ])
 

@@ -1,4 +1,4 @@
-use Rattle.std.proofs.Common.{◌≡◌, take, drop, sym, refl, ap, ◌∙◌, inl, inr, ⊎_elim, arith}
+use Rattle.std.proofs.Common.{take, drop, ap, ◌∙◌, inl, inr, ⊎_elim, arith}
 use Rattle.rows.proofs.Fitting.{row_fits, no_row, cut_row}
 use Rattle.rows.proofs.row.Rows.row.Goals as goal
 

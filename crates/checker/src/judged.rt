@@ -1,6 +1,6 @@
 // The verdict on the bytes of a file for the bytes of the rules.
 ghost use Rattle.std.specs.Prelude.{◌≡◌};
-ghost use Rattle.check.specs.Judged.{verdict_on};
+ghost use Rattle.checker.specs.Judged.{verdict_on};
 
 use crate::command::Kind;
 use game::refusal::Refusal;

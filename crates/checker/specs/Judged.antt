@@ -7,8 +7,8 @@ use Rattle.game.specs.Reading.{Step, part, refused, rules_in}
 use Rattle.rows.specs.declared.judge.Accepted.{Accepted}
 use Rattle.table.specs.Sound.{table_verdict}
 use Rattle.counter.specs.Sound.{way_verdict}
-use Rattle.check.specs.declared.command.Kind.{Kind}
-use Rattle.check.specs.declared.command.Kind.TheVariants.{Table, Way}
+use Rattle.checker.specs.declared.command.Kind.{Kind}
+use Rattle.checker.specs.declared.command.Kind.TheVariants.{Table, Way}
 
 -- the verdict on a file of a kind, for what the rules say
 abbrev pub verdict_for : Kind → Content → List ℕ → Result Accepted Refusal
