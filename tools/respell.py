@@ -1,43 +1,45 @@
 #!/usr/bin/env python3
 """Respells the repository's own antt names as the kit spells its names: words in snake case, facts and types in camel case.
 
-    tools/respell.py          rewrites crates/*/{src,specs,proofs}, the names in back quotes of README.md and docs/, and tools/rules_as_antt.py
+    tools/respell.py          rewrites crates/*/{src,specs,proofs} and the names in back quotes of README.md and docs/
     tools/respell.py --list   prints each name with its new spelling
 
-Run once, after the kit's own port.py. Names that the prover makes (goals, steps, their fields) keep their dashes: they are
-told apart by where they stand, as a goal's answer or after a dot.
+Run once, after the kit's own port.py. Two kinds of names keep their dashes: those of the kit, which a text imports from it,
+and those that the prover makes, which stand as a goal's answer, in an import from a function's goals, or after a dot.
 """
 import re
 import sys
 from pathlib import Path
 
 ROOT = Path(__file__).resolve().parent.parent
+CRATES = [path.name for path in ROOT.glob("crates/*")]
 ANTT = sorted(path for part in ("specs", "proofs") for path in ROOT.glob(f"crates/*/{part}/**/*.antt"))
 CODE = sorted(ROOT.glob("crates/*/src/*.rt"))
 PAGES = [ROOT / "README.md", *sorted(ROOT.glob("docs/*.md"))]
 
-TOP = re.compile(r"(?:(?:abbrev|unfoldable|pub|data|record)\s+)*([^\s(){}:;,.]+)(?:\s+[({].*)?\s+:\s*(.*)")
-MEMBER = re.compile(r"\s+(?:pub\s+)?([A-Za-z][^\s(){}:;,.]*)\s+:\s")
-BLOCK = re.compile(r"(?:pub\s+)?(?:data|record)\s")
-NAME = re.compile(r"(?<![\w'◌-])[A-Za-z]\w*(?:-\w+)+'*(?![\w◌-])")
+NAME = re.compile(r"(?<![\w'◌+-])[A-Za-z]\w*(?:-\w+)+'*(?![\w◌+-])")
+USE = re.compile(r"^(?:pub |ghost )?use ([\w'.+·-]+)\.\{([^}]*)\};?$", re.M)
+GOAL = re.compile(r"goal\.([\w'-]+)")
+BLOCK = re.compile(r"^(?:pub )?(?:data|record)\b.*\n((?:(?: .*)?\n)*)", re.M)
+MEMBER = re.compile(r"^ +(?:pub )?([A-Za-z][\w'-]*) : ", re.M)
 
 # Where the rule gives a name that is taken, another that says the same.
 TAKEN = {"bit-and": "bit_of_and", "bit-or": "bit_of_or", "bit-xor": "bit_of_xor", "Of-rules": "ArenaOfRules"}
 
 
-def declared(lines):
-    """The names that a file declares: those at its top, and the constructors and fields in its blocks."""
-    tops, members, block = set(), set(), False
-    for at, line in enumerate(lines):
-        if line[:1].strip() and not line.startswith("--"):
-            block = bool(BLOCK.match(line))
-            found = TOP.match(line)
-            signature = found and (found[2] or (lines[at + 1].strip() if at + 1 < len(lines) else ""))
-            if found and not line.startswith(("use ", "pub use ")) and not signature.startswith("goal."):
-                tops.add(found[1])
-        elif block and (found := MEMBER.match(line)):
-            members.add(found[1])
-    return tops, members
+def own(path):
+    """Whether a module is the repository's: it is in one of its crates, and not among the goals of a function."""
+    return bool(re.match(rf"Rattle[.·](?:{'|'.join(CRATES)})\b", path)) and not re.search(r"\.(?:Goals|Given)$", path)
+
+
+def names(text):
+    """The dashed names in a text that are the repository's own, and among them those of fields and constructors."""
+    text = re.sub(r"--.*", "", text)
+    foreign = {word for path, words in USE.findall(text) if not own(path) for word in re.split(r"[,\s]+", words)}
+    foreign |= set(GOAL.findall(text))
+    found = {word[0] for word in NAME.finditer(text) if text[word.start() - 1 : word.start()] != "."}
+    members = {name for block in BLOCK.findall(text) for name in MEMBER.findall(block) if "-" in name}
+    return found - foreign, members
 
 
 def respelt(name):
@@ -50,55 +52,41 @@ def respelt(name):
     return "_".join(words)
 
 
-def renamings():
-    """The names to respell at the top, and those of fields and constructors."""
-    tops, members = set(), set()
-    for path in ANTT:
-        more = declared(path.read_text().split("\n"))
-        tops |= more[0]
-        members |= more[1]
-    dashed = lambda names: {name: respelt(name) for name in sorted(names) if "-" in name}
-    return dashed(tops), dashed(members)
-
-
-def rewrite(text, tops, members):
+def rewrite(text, words, members):
     """The text with each of the names respelt; after a dot only a field or a constructor is one."""
 
     def spelling(found):
-        name = found[0]
-        if text[found.start() - 1 : found.start()] == ".":
-            return members.get(name, name)
-        return tops.get(name) or members.get(name, name)
+        after_dot = text[found.start() - 1 : found.start()] == "."
+        return respelt(found[0]) if found[0] in (members if after_dot else words) else found[0]
 
     return NAME.sub(spelling, text)
 
 
-def clash(tops, members):
+def clashes(words):
     """New names that an antt text has already, but for a part of a path or a remark, or that two names get."""
-    words = set()
+    there, seen = set(), {}
     for path in ANTT:
         text = re.sub(r"--.*", "", path.read_text())
-        words |= set(re.findall(r"(?<![\w'.+-])[\w'-]+", text))
-    seen = {}
-    for old, name in {**tops, **members}.items():
-        if name in words or seen.setdefault(name, old) != old:
-            yield old, name
+        there |= set(re.findall(r"(?<![\w'.+-])[\w'-]+", text))
+    for old in sorted(words):
+        new = respelt(old)
+        if new in there or seen.setdefault(new, old) != old:
+            yield f"{old} as {new}"
 
 
 def main():
-    tops, members = renamings()
+    found = [names(path.read_text()) for path in ANTT]
+    words = set().union(*(words for words, _ in found))
+    members = set().union(*(members for _, members in found))
     if sys.argv[1:] == ["--list"]:
-        for old, name in sorted({**tops, **members}.items()):
-            print(old, name)
+        print("\n".join(f"{old} {respelt(old)}" for old in sorted(words)))
         return
-    if clashes := list(clash(tops, members)):
-        sys.exit("respell: taken already: " + ", ".join(f"{old} as {name}" for old, name in clashes))
+    if taken := list(clashes(words)):
+        sys.exit("respell: taken already: " + ", ".join(taken))
     for path in ANTT + CODE:
-        text = path.read_text()
-        path.write_text(rewrite(text, tops, members))
+        path.write_text(rewrite(path.read_text(), words, members))
     for path in PAGES:
-        text = path.read_text()
-        path.write_text(re.sub(r"`[^`\n]*`", lambda quote: rewrite(quote[0], tops, members), text))
+        path.write_text(re.sub(r"`[^`\n]*`", lambda quote: rewrite(quote[0], words, members), path.read_text()))
 
 
 if __name__ == "__main__":

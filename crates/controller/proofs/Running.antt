@@ -1,8 +1,8 @@
 -- Runs of the controller, turn by turn.
 --   steps_same   a step by the rules and the table that there were is one by those that there are
 --   run_more     one more move was answered
---   run-refused  the next move was refused, and nothing changed
---   run-ended    all that is promised of a run, once it has stopped
+--   run_refused  the next move was refused, and nothing changed
+--   run_ended    all that is promised of a run, once it has stopped
 use Rattle.std.proofs.Common.{◌≡◌, ℕ, ◌+◌, ◌<◌, List, [], ◌∷◌, ◌++◌, length, get_or, take, Some, Ok, Err, vec_items, Result, sym, ap, ◌∙◌, subst}
 use Rattle.std.proofs.lemmas.List.{take_more}
 use Rattle.game.specs.declared.refusal.Refusal.{Refusal}
@@ -45,10 +45,10 @@ module _ (c : Controller) (moves : List ℕ) where
       walk_next (game_in c) (plan_in c) (place_in c) (place_in d) (place_in after) moves answers n a l walk
       (steps_same c d (place_in d) (get_or moves n 0) (place_in after) (Ok a) same step)
 
-  pub run-refused : (d after : Controller) (answers : List ℕ) (n : ℕ) (r : Refusal) → n < length moves → Same c d →
+  pub run_refused : (d after : Controller) (answers : List ℕ) (n : ℕ) (r : Refusal) → n < length moves → Same c d →
       Walked n answers d → StepsTo d (get_or moves n 0) after (Err r) →
       Walked n answers after × Stops (game_in c) (plan_in c) (place_in after) moves n (Some r)
-  run-refused d after answers n r l same walk step =
+  run_refused d after answers n r l same walk step =
       let s = steps_same c d (place_in d) (get_or moves n 0) (place_in after) (Err r) same step in (
         subst (λ (v : Now). Walks (game_in c) (plan_in c) (place_in c) (take n moves) answers v) (sym s.1) walk,
         (l, ap (λ (v : Now). refusal_at (game_in c) (plan_in c) v (get_or moves n 0)) s.1 ∙ s.0),
@@ -60,9 +60,9 @@ module _ (c : Controller) (moves : List ℕ) where
     pub plays : PlaysTo c moves d ran
     pub safe : SafeTo c moves d ran
 
-  pub run-ended : (d : Controller) (ran : Ran) (n : ℕ) → length (vec_items ran.answers) ≡ n →
+  pub run_ended : (d : Controller) (ran : Ran) (n : ℕ) → length (vec_items ran.answers) ≡ n →
       Walked n (vec_items ran.answers) d → Stops (game_in c) (plan_in c) (place_in d) moves n ran.refusal → Ended d ran
-  run-ended d ran n len walk stop =
+  run_ended d ran n len walk stop =
       let g : Game = game_in c in
       let p : Plan = plan_in c in
       let answers : List ℕ = vec_items ran.answers in

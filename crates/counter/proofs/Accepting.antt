@@ -26,25 +26,25 @@ module _ (c : Content) (bs : List ℕ) where
   way = counterstrategy_of (grid_for c) bs
 
   -- a state that is known is one of those that there are
-  known-within : (s : ℕ) → way.known s ≡ true → s < 2 ^ c.state
-  known-within s k =
+  known_within : (s : ℕ) → way.known s ≡ true → s < 2 ^ c.state
+  known_within s k =
       let one : get_or (row_at (grid_for c) bs 0 s) 0 0 ≡ 1 = eqb-true _ 1 k in
       (row_is (grid_for c) bs 0 s (omega arith)).1
 
   tested : Decides (counter_test (sizes_of c) (game_of c) way) (CounterHolds (game_of c) way)
-  tested = counter_tested (sizes_of c) (game_of c) way (rules_within c) known-within
+  tested = counter_tested (sizes_of c) (game_of c) way (rules_within c) known_within
 
   -- all states are sound exactly if they are in range and the counterstrategy's test is true
-  test-from : ((s : ℕ) → s < 2 ^ c.state → state_sound c (grid_for c) bs s ≡ true) → counter_test (sizes_of c) (game_of c) way ≡ true
-  test-from sound =
+  test_from : ((s : ℕ) → s < 2 ^ c.state → state_sound c (grid_for c) bs s ≡ true) → counter_test (sizes_of c) (game_of c) way ≡ true
+  test_from sound =
       (each (counter_state (sizes_of c) (game_of c) way) (2 ^ c.state)).1
       (λ s h. (each (λ i. counter_row (sizes_of c) (game_of c) way i s) (turns (length c.promises))).1
       (λ i k. implies_by (way.known s) (row_sound c way i s)
       (λ known. (each (λ m. row_sound c way m s) (turns (length c.promises))).0
       (implied (way.known s) (rows_sound c way s) (and_parts _ _ (sound s h)).1 known) i k)))
 
-  rows-from : Accepts c bs → (s : ℕ) → s < 2 ^ c.state → state_sound c (grid_for c) bs s ≡ true
-  rows-from a s h =
+  rows_from : Accepts c bs → (s : ℕ) → s < 2 ^ c.state → state_sound c (grid_for c) bs s ≡ true
+  rows_from a s h =
       and_from _ _ (a.in_range s h)
       (implies_by (way.known s) (rows_sound c way s)
       (λ known. (each (λ m. row_sound c way m s) (turns (length c.promises))).1
@@ -61,12 +61,12 @@ module _ (c : Content) (bs : List ℕ) where
   abbrev rest : Result Accepted Refusal
   rest = verdict_of c (state_sound c (grid_for c) bs) (λ s. way.known s) WayFault
 
-  decides-rest : Decides (is_ok rest) Sound
-  decides-rest = decides_verdict c (state_sound c (grid_for c) bs) (λ s. way.known s) WayFault
+  decides_rest : Decides (is_ok rest) Sound
+  decides_rest = decides_verdict c (state_sound c (grid_for c) bs) (λ s. way.known s) WayFault
 
   to : missized (length_of (grid_for c)) bs ≡ None → Sound → Accepts c bs
   to p v =
-      let holds : CounterHolds (game_of c) way = tested.0 (test-from v.0) in
+      let holds : CounterHolds (game_of c) way = tested.0 (test_from v.0) in
       record {
         whole = (sized (length_of (grid_for c)) bs).0 (ap is_none p);
         in_range = λ s h. (and_parts _ _ (v.0 s h)).0;
@@ -75,13 +75,13 @@ module _ (c : Content) (bs : List ℕ) where
         starts = v.1;
       }
 
-  accepts-by : (o : Option Refusal) → missized (length_of (grid_for c)) bs ≡ o → Decides (is_ok (unless o rest)) (Accepts c bs)
-  accepts-by (Some x) p =
+  accepts_by : (o : Option Refusal) → missized (length_of (grid_for c)) bs ≡ o → Decides (is_ok (unless o rest)) (Accepts c bs)
+  accepts_by (Some x) p =
       (λ e. absurd (false≢true e), λ a. absurd (false≢true (ap is_none (sym p) ∙ (sized (length_of (grid_for c)) bs).1 a.whole)))
-  accepts-by None p = (λ e. to p (decides-rest.0 e), λ a. decides-rest.1 (rows-from a, a.starts))
+  accepts_by None p = (λ e. to p (decides_rest.0 e), λ a. decides_rest.1 (rows_from a, a.starts))
 
   pub accepts : Decides (is_ok (way_verdict c bs)) (Accepts c bs)
-  accepts = accepts-by (missized (length_of (grid_for c)) bs) refl
+  accepts = accepts_by (missized (length_of (grid_for c)) bs) refl
 
   pub beats : Accepts c bs → Beats c
   beats a =

@@ -43,11 +43,11 @@ leaf bs σ t ss es rs w h is v =
 pub one : (bs after : List ℕ) (σ : Symbol) (op : Tree → Tree) (ss es rs : ℕ → ℕ) (x w : ℕ) → Begins bs σ →
     ((fs : List Tree) → plant σ fs ≡ op (top fs) ∷ under fs) → Valued (rest bs) after ss es rs x →
     ((t : Tree) → Values t ss es rs x → Values (op t) ss es rs w) → Valued bs after ss es rs w
-one bs after σ op ss es rs x w h is v op-v =
+one bs after σ op ss es rs x w h is v op_v =
     let fs = forest (rest bs) in
     let all : forest bs ≡ op (top fs) ∷ under fs = forest_step bs σ h ∙ is fs in
     record {
-      values = rw all (op-v (top fs) v.values);
+      values = rw all (op_v (top fs) v.values);
       others = rw all v.others;
       less = omega (arith, rest_length bs, v.less);
     }
@@ -57,12 +57,12 @@ pub two : (bs mid after : List ℕ) (σ : Symbol) (op : Tree → Tree → Tree) 
     ((fs : List Tree) → plant σ fs ≡ op (top fs) (top (under fs)) ∷ under (under fs)) →
     Valued (rest bs) mid ss es rs x → Valued mid after ss es rs y →
     ((t u : Tree) → Values t ss es rs x → Values u ss es rs y → Values (op t u) ss es rs w) → Valued bs after ss es rs w
-two bs mid after σ op ss es rs x y w h is v u op-v =
+two bs mid after σ op ss es rs x y w h is v u op_v =
     let fs = forest (rest bs) in
     let all : forest bs ≡ op (top fs) (top (under fs)) ∷ under (under fs) = forest_step bs σ h ∙ is fs in
     let second : Values (top (under fs)) ss es rs y = rw v.others at u.values in
     record {
-      values = rw all (op-v (top fs) (top (under fs)) v.values second);
+      values = rw all (op_v (top fs) (top (under fs)) v.values second);
       others = rw all (u.others ∙ ap under v.others);
       less = omega (arith, rest_length bs, v.less, u.less);
     }

@@ -1,6 +1,6 @@
 -- Bytes appended part by part, and the rows that the writer takes apart.
 use Rattle.std.proofs.Common.{◌≡◌, ℕ, zero, suc, ◌+◌, ◌-◌, ◌*◌, ◌/◌, ◌%◌, ◌<◌, ◌≤◌, cond, List, [], ◌∷◌, ◌++◌, length, get_or, take, drop, is_ok, Ok, Err, Result, sym, refl, ap, ◌∙◌, append_assoc, append-nil, arith, length-take, take_all}
-use Rattle.std.specs.List.{AllByRecursion as All}
+use Rattle.std.specs.List.{AllByRecursion}
 use Rattle.std.proofs.lemmas.List.{take_at}
 use Rattle.game.specs.Content.{first_formula, other_formulas, formulas_of, starts_of, with_length, with_lengths, two_bytes}
 use Rattle.game.specs.Laws.{Byte, Longer, Appended}
@@ -35,7 +35,7 @@ starts_count zero bs = refl
 starts_count (suc n) bs = ap suc (starts_count n (drop 2 bs))
 
 -- a formula in a row is as long as its length byte says, or shorter
-pub first_whole : (bs : List ℕ) → All Byte bs → take 255 (first_formula bs) ≡ first_formula bs
+pub first_whole : (bs : List ℕ) → AllByRecursion Byte bs → take 255 (first_formula bs) ≡ first_formula bs
 first_whole [] h = refl
 first_whole (l ∷ bs) h = take_all 255 (take l bs) (simp length-take (omega (arith, h.0)))
 

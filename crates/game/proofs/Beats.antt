@@ -10,7 +10,7 @@ use Rattle.game.specs.Play.{Again, Finitely, NotNot, led, lead}
 use Rattle.game.specs.Theorems.{CounterWins}
 use Rattle.game.proofs.Descent.{Later, here, next, and_then, from_on, Less, by_rank, by_ranks}
 use Rattle.game.proofs.Cycle.{turn_if, around}
-use Rattle.game.proofs.Leading.{toward-below, led-state, led-legal, led-descends}
+use Rattle.game.proofs.Leading.{toward_below, led_state, led_legal, led_descends}
 
 turns_all : (n i : ℕ) → i < n → i < turns n
 turns_all zero i l = absurd (omega arith)
@@ -45,7 +45,7 @@ module _ (g : Game) (c : Counterstrategy) (toward state : ℕ → ℕ) (below : 
     where
       go : (n : ℕ) → ((m : ℕ) → Less layer rank m n → Meets m) → Descends g c (toward n) (state n) (state (suc n)) → Meets n
       go n lower (inl falls) = next (lower (suc n) (inl falls))
-      go n lower (inr (same, _, _, _, inl is-kept)) = here n is-kept
+      go n lower (inr (same, _, _, _, inl is_kept)) = here n is_kept
       go n lower (inr (same, _, _, _, inr (inl (unkept, _, falls)))) =
           next (lower (suc n) (inr (same, subst (λ i. c.rank i (state (suc n)) < rank n) (sym (still n unkept)) falls)))
       go n lower (inr (same, _, _, _, inr (inr (none, _)))) = absurd (omega arith)
@@ -55,25 +55,25 @@ module _ (g : Game) (c : Counterstrategy) (toward state : ℕ → ℕ) (below : 
   keeps i inside n =
       and_then
       (around (turns g.promises) toward met turn below (meets (omega arith)) i (turns_all g.promises i inside) n)
-      (λ m (at_i, is-met). here m (subst (λ j. g.promise j (state m) ≡ true) at_i (and_parts _ _ is-met).1))
+      (λ m (at_i, is_met). here m (subst (λ j. g.promise j (state m) ≡ true) at_i (and_parts _ _ is_met).1))
 
   -- where the layer is never less than at n, the goal kept away from stays the same and is never met
   module _ (n : ℕ) (lowest : (m : ℕ) → layer m < layer n → ⊥) where
     level : (m : ℕ) → layer m ≡ layer n → Descends g c (toward m) (state m) (state (suc m)) →
         (layer (suc m) ≡ layer n) × (avoid (suc m) ≡ avoid m) × (avoid m < g.goals) × (g.goal (avoid m) (state m) ≡ false)
     level m same (inl falls) = absurd (lowest (suc m) (omega arith))
-    level m same (inr (stays, still-j, inside, away, _)) = (stays ∙ same, still-j, inside, away)
+    level m same (inr (stays, still_j, inside, away, _)) = (stays ∙ same, still_j, inside, away)
 
     same_goal : (m : ℕ) → n ≤ m → (layer m ≡ layer n) × (avoid m ≡ avoid n)
     same_goal =
         from_on (λ m. (layer m ≡ layer n) × (avoid m ≡ avoid n)) n (refl, refl)
-        (λ m (same, same-j). let l = level m same (descends m) in (l.0, l.1 ∙ same-j))
+        (λ m (same, same_j). let l = level m same (descends m) in (l.0, l.1 ∙ same_j))
 
     away : (m : ℕ) → n ≤ m → (avoid n < g.goals) × (g.goal (avoid n) (state m) ≡ false)
     away m later =
-        let (same, same-j) = same_goal m later in
+        let (same, same_j) = same_goal m later in
         let l = level m same (descends m) in
-        subst (λ j. (j < g.goals) × (g.goal j (state m) ≡ false)) same-j (l.2, l.3)
+        subst (λ j. (j < g.goals) × (g.goal j (state m) ≡ false)) same_j (l.2, l.3)
 
   pub misses : NotNot ((j : ℕ) × (j < g.goals) × Finitely (λ n. g.goal j (state n)))
   misses none =
@@ -85,16 +85,16 @@ unfolding led
 counter_wins g c k s holds known =
     let toward = λ (n : ℕ). (led g c k s n).toward in
     let state = λ (n : ℕ). (led g c k s n).state in
-    let same = sym (fun_ext (led-state g c k s)) in
+    let same = sym (fun_ext (led_state g c k s)) in
     record {
       row = lead g c k s;
-      legal = led-legal g c k s holds known;
+      legal = led_legal g c k s holds known;
       keeps =
           λ answered.
           subst (λ (ss : ℕ → ℕ). (i : ℕ) → i < g.promises → Again (λ n. g.promise i (ss n))) same
-          (keeps g c toward state (toward-below g c k s) (λ n. refl) (λ n. led-descends g c k s holds known n (answered (suc n))));
+          (keeps g c toward state (toward_below g c k s) (λ n. refl) (λ n. led_descends g c k s holds known n (answered (suc n))));
       misses =
           λ answered.
           subst (λ (ss : ℕ → ℕ). NotNot ((j : ℕ) × (j < g.goals) × Finitely (λ n. g.goal j (ss n)))) same
-          (misses g c toward state (toward-below g c k s) (λ n. refl) (λ n. led-descends g c k s holds known n (answered (suc n))));
+          (misses g c toward state (toward_below g c k s) (λ n. refl) (λ n. led_descends g c k s holds known n (answered (suc n))));
     }

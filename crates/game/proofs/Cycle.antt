@@ -51,8 +51,8 @@ module _ (count : ℕ) (toward : ℕ → ℕ) (met : ℕ → Bool)
   forward j zero n inside e = here n (omega arith)
   forward j (suc d) n inside e =
       and_then (first n)
-      (λ m (same, is-met).
-      let on = goes m true is-met ∙ next_inside count (toward m) (omega arith) in
+      (λ m (same, is_met).
+      let on = goes m true is_met ∙ next_inside count (toward m) (omega arith) in
       next (forward j d (suc m) inside (omega arith)))
 
   -- forward to the last, and on from there
@@ -62,7 +62,7 @@ module _ (count : ℕ) (toward : ℕ → ℕ) (met : ℕ → Bool)
       and_then (forward (pred count) (pred count - toward n) n (omega arith) (omega arith))
       (λ a at_last.
       and_then (first a)
-      (λ m (same, is-met). next (here (suc m) (goes m true is-met ∙ next_last count (toward m) (omega arith)))))
+      (λ m (same, is_met). next (here (suc m) (goes m true is_met ∙ next_last count (toward m) (omega arith)))))
 
   -- back to 0, forward to j, and there until it is met
   pub around : (j : ℕ) → j < count → (n : ℕ) → Later (Met j) n

@@ -48,11 +48,11 @@ by_ranks first second P step = by_rank first P outer
 
 pub up_to : (f : ℕ → Bool) (t : ℕ) → f t ≡ true →
     (P : ℕ → Type 0) → ((n : ℕ) → (f n ≡ false → P (suc n)) → P n) → (n : ℕ) → n ≤ t → P n
-up_to f t at-t P step = by_rank (λ n. t - n) (λ n. n ≤ t → P n) go
+up_to f t at_t P step = by_rank (λ n. t - n) (λ n. n ≤ t → P n) go
   where
     ahead : (n : ℕ) → n ≤ t → f n ≡ false → n < t
     ahead n l e =
-        ⊎_elim (λ h. h) (λ h. absurd (both_ways (f n) e (subst (λ m. f m ≡ true) (omega arith) at-t))) (cases_lt n t)
+        ⊎_elim (λ h. h) (λ h. absurd (both_ways (f n) e (subst (λ m. f m ≡ true) (omega arith) at_t))) (cases_lt n t)
 
     go : (n : ℕ) → ((m : ℕ) → t - m < t - n → m ≤ t → P m) → n ≤ t → P n
     go n later l = step n (λ e. let before = ahead n l e in later (suc n) (omega arith) before)

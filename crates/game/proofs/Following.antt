@@ -2,8 +2,8 @@
 --   on_plan_step   after one more legal move the plan still knows where it is
 --   follows        the controller that follows the plan is in the states that the plan reckons with
 --   stays_on_plan  as long as the moves are legal the plan knows where it is
---   plan-answers   and its answer is allowed
---   plan-progress  and where the goal gone for does not hold there is progress
+--   plan_answers   and its answer is allowed
+--   plan_progress  and where the goal gone for does not hold there is progress
 use Rattle.std.proofs.Common.{◌≡◌, ℕ, zero, suc, true, false, ◌∷◌, refl, ap, arith}
 use Rattle.game.specs.Game.{Game, goal_after}
 use Rattle.game.specs.Plan.{Plan, PlanHolds, Progress}
@@ -30,18 +30,18 @@ stays_on_plan g p s some holds known es (suc n) legal =
     (rw (follows g p s es n) at (legal n (omega arith)))
 
 module _ (g : Game) (p : Plan) (s : ℕ) (holds : PlanHolds g p) (es : ℕ → ℕ) (n : ℕ) where
-  pub plan-answers : OnPlan g p (now_after g p s (past es n)) →
+  pub plan_answers : OnPlan g p (now_after g p s (past es n)) →
       g.moves (state_at g (follow g p s) es s n) (es n) ≡ true →
       g.allowed (state_at g (follow g p s) es s n) (es n) (follow g p s (es n ∷ past es n)) ≡ true
   unfolding follow
-  plan-answers (below, known) legal =
+  plan_answers (below, known) legal =
       rw (follows g p s es n) (holds.answers _ _ (es n) below known (rw (follows g p s es n) at legal))
 
-  pub plan-progress : OnPlan g p (now_after g p s (past es n)) →
+  pub plan_progress : OnPlan g p (now_after g p s (past es n)) →
       g.moves (state_at g (follow g p s) es s n) (es n) ≡ true →
       g.goal (now_after g p s (past es n)).mode (now_after g p s (past es n)).state ≡ false →
       Progress g p (now_after g p s (past es n)).mode (now_after g p s (past es n)).state
       (now_after g p s (past es (suc n))).state
   unfolding now_after past
-  plan-progress (below, known) legal unmet =
+  plan_progress (below, known) legal unmet =
       holds.progress _ _ (es n) below known (rw (follows g p s es n) at legal) unmet

@@ -1,8 +1,8 @@
 -- A play under a counterstrategy: what it does, and that it is the play with the row of moves that it leads.
---   toward-below         what is gone for is always the number of a promise
---   led-moves, led-state the moves so far, and the state, are those of the play with that row of moves
---   led-legal            as long as the answers are allowed, its moves are legal
---   led-descends         as long as the answers are allowed, each step descends
+--   toward_below         what is gone for is always the number of a promise
+--   led_moves, led_state the moves so far, and the state, are those of the play with that row of moves
+--   led_legal            as long as the answers are allowed, its moves are legal
+--   led_descends         as long as the answers are allowed, each step descends
 use Rattle.std.proofs.Common.{◌≡◌, ℕ, zero, suc, ◌<◌, true, ◌∷◌, refl, ap, arith}
 use Rattle.game.specs.Game.{Game}
 use Rattle.game.specs.Counterstrategy.{Counterstrategy, CounterHolds, Descends, turns, promise_after}
@@ -20,36 +20,36 @@ module _ (g : Game) (c : Counterstrategy) (k : Controller) (s : ℕ) where
   abbrev row : ℕ → ℕ
   row = lead g c k s
 
-  pub toward-below : (n : ℕ) → (at n).toward < turns g.promises
+  pub toward_below : (n : ℕ) → (at n).toward < turns g.promises
   unfolding led promise_after
-  toward-below zero = turns_some g.promises
-  toward-below (suc n) = turn_below (turns g.promises) _ _ (toward-below n)
+  toward_below zero = turns_some g.promises
+  toward_below (suc n) = turn_below (turns g.promises) _ _ (toward_below n)
 
-  led-moves : (n : ℕ) → past row n ≡ (at n).moved
+  led_moves : (n : ℕ) → past row n ≡ (at n).moved
   unfolding past led lead
-  led-moves zero = refl
-  led-moves (suc n) = ap (λ es. row n ∷ es) (led-moves n)
+  led_moves zero = refl
+  led_moves (suc n) = ap (λ es. row n ∷ es) (led_moves n)
 
-  pub led-state : (n : ℕ) → state_at g k row s n ≡ (at n).state
+  pub led_state : (n : ℕ) → state_at g k row s n ≡ (at n).state
   unfolding state_at led lead
-  led-state zero = refl
-  led-state (suc n) = cc (led-state n, led-moves n)
+  led_state zero = refl
+  led_state (suc n) = cc (led_state n, led_moves n)
 
   module _ (holds : CounterHolds g c) (known : c.known s ≡ true) where
     allowed : (n : ℕ) → Answered g k row s (suc n) → g.allowed (at n).state (row n) (k (row n ∷ (at n).moved)) ≡ true
-    allowed n answered = rw (led-state n, led-moves n) at (answered n (omega arith))
+    allowed n answered = rw (led_state n, led_moves n) at (answered n (omega arith))
 
-    stays-known : (n : ℕ) → Answered g k row s n → c.known (at n).state ≡ true
+    stays_known : (n : ℕ) → Answered g k row s n → c.known (at n).state ≡ true
     unfolding led lead
-    stays-known zero answered = known
-    stays-known (suc n) answered =
-        holds.goes_on _ _ _ (toward-below n) (stays-known n (λ m l. answered m (omega arith))) (allowed n answered)
+    stays_known zero answered = known
+    stays_known (suc n) answered =
+        holds.goes_on _ _ _ (toward_below n) (stays_known n (λ m l. answered m (omega arith))) (allowed n answered)
 
-    pub led-legal : (n : ℕ) → Answered g k row s n → g.moves (state_at g k row s n) (row n) ≡ true
+    pub led_legal : (n : ℕ) → Answered g k row s n → g.moves (state_at g k row s n) (row n) ≡ true
     unfolding lead
-    led-legal n answered = rw (led-state n) (holds.moves _ _ (toward-below n) (stays-known n answered))
+    led_legal n answered = rw (led_state n) (holds.moves _ _ (toward_below n) (stays_known n answered))
 
-    pub led-descends : (n : ℕ) → Answered g k row s (suc n) → Descends g c (at n).toward (at n).state (at (suc n)).state
+    pub led_descends : (n : ℕ) → Answered g k row s (suc n) → Descends g c (at n).toward (at n).state (at (suc n)).state
     unfolding led lead
-    led-descends n answered =
-        holds.descends _ _ _ (toward-below n) (stays-known n (λ m l. answered m (omega arith))) (allowed n answered)
+    led_descends n answered =
+        holds.descends _ _ _ (toward_below n) (stays_known n (λ m l. answered m (omega arith))) (allowed n answered)

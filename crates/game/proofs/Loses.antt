@@ -32,8 +32,8 @@ pub known_loses : (g : Game) (c : Counterstrategy) (k : Controller) (s : â„•) â†
 known_loses g c k s holds known w = beaten_loses g k s (counter_wins g c k s holds known) (nearly g k s w)
 
 pub never_both : NeverBoth
-never_both g p c s some plan counter known-p known-c =
-    known_loses g c (follow g p s) s counter known-c (plan_wins g p s some plan known-p)
+never_both g p c s some plan counter known_p known_c =
+    known_loses g c (follow g p s) s counter known_c (plan_wins g p s some plan known_p)
 
 pub exactly : Exactly
 exactly g p c s some plan counter either = (

@@ -1,7 +1,7 @@
 -- Reading and writing one part of a rules file are inverse, whatever bytes follow the part.
 use Rattle.std.proofs.Common.{◌≡◌, ℕ, zero, suc, ◌+◌, ◌*◌, ◌/◌, ◌%◌, ◌<◌, ◌≤◌, Bool, true, false, cond, ◌&&◌, ltb, leb, List, [], ◌∷◌, ◌++◌, length, take, drop, Ok, Err, Result, sym, refl, ap, ◌∙◌, append_assoc, arith, length-append}
 use native.Mathlib.Nat.{div-add-mod}
-use Rattle.std.specs.List.{AllByRecursion as All}
+use Rattle.std.specs.List.{AllByRecursion}
 use Rattle.std.proofs.lemmas.List.{take_at, drop_at, take-append-drop, length-take-le}
 use Rattle.std.proofs.lemmas.Nat.{div-mul-add, mod-mul-add}
 use Rattle.std.proofs.lemmas.Bool.{leb-true, ltb-true, le-leb, lt-ltb, and_parts, and_from}
@@ -19,11 +19,11 @@ use Rattle.game.proofs.Whole.{went}
 pub record Exact {A : Type 0} (bytes_of : A → List ℕ) (P : A → Type 0) (bs : List ℕ) (a : A) (rest : List ℕ) : Type 0 where
   pub sound : P a
   pub same : bytes_of a ++ rest ≡ bs
-  pub bytes : All Byte rest
+  pub bytes : AllByRecursion Byte rest
 
 -- a step reads exactly what has P, from the bytes of it
 pub record Inverse {A : Type 0} (step : List ℕ → Step A) (bytes_of : A → List ℕ) (P : A → Type 0) : Type 0 where
-  pub back : (bs : List ℕ) (a : A) (rest : List ℕ) → All Byte bs → step bs ≡ part a rest → Exact bytes_of P bs a rest
+  pub back : (bs : List ℕ) (a : A) (rest : List ℕ) → AllByRecursion Byte bs → step bs ≡ part a rest → Exact bytes_of P bs a rest
   pub forth : (a : A) (rest : List ℕ) → P a → step (bytes_of a ++ rest) ≡ part a rest
 
 -- the same by other names
@@ -43,7 +43,7 @@ tested_byte : (whole : ℕ) (test : ℕ → Bool) (P : ℕ → Type 0) (r : List
 tested_byte whole test P r to from =
     record { back = back; forth = λ b rest p. rw (from b p) refl }
   where
-    back : (bs : List ℕ) (b : ℕ) (rest : List ℕ) → All Byte bs →
+    back : (bs : List ℕ) (b : ℕ) (rest : List ℕ) → AllByRecursion Byte bs →
         then (read_byte whole bs) (λ b rest. cond (test b) (part b rest) (refused (r bs))) ≡ part b rest → Exact (λ b. b ∷ []) P bs b rest
     back [] b rest all e = no_refusal e
     back (x ∷ bs) b rest all e =
@@ -64,7 +64,7 @@ count_inverse whole least most =
     (λ b p. and_from (leb least b) (leb b most) (le-leb least b p.0) (le-leb b most p.1))
 
 -- what follows the front of a row of bytes
-all_drop : (n : ℕ) (bs : List ℕ) → All Byte bs → All Byte (drop n bs)
+all_drop : (n : ℕ) (bs : List ℕ) → AllByRecursion Byte bs → AllByRecursion Byte (drop n bs)
 all_drop zero bs h = h
 all_drop (suc n) [] h = tt
 all_drop (suc n) (b ∷ bs) h = all_drop n bs h.1
@@ -73,19 +73,19 @@ all_drop (suc n) (b ∷ bs) h = all_drop n bs h.1
 pub formula_inverse : (whole : ℕ) (sc : Scope) → Inverse (read_formula whole sc) with_length (Sound sc)
 formula_inverse whole sc = record { back = back; forth = forth }
   where
-    cut : (l : ℕ) (bs f rest : List ℕ) → All Byte bs → reading sc (take l bs) ≡ Ok tt → leb l (length bs) ≡ true → take l bs ≡ f → drop l bs ≡ rest →
+    cut : (l : ℕ) (bs f rest : List ℕ) → AllByRecursion Byte bs → reading sc (take l bs) ≡ Ok tt → leb l (length bs) ≡ true → take l bs ≡ f → drop l bs ≡ rest →
         Exact with_length (Sound sc) (l ∷ bs) f rest
     cut l bs f rest all r t same left =
         let long : length (take l bs) ≡ l = length-take-le l bs (leb-true l (length bs) t) in
         exact_as same left
         (record { sound = r; same = rw long (ap (λ xs. l ∷ xs) (take-append-drop l bs)); bytes = all_drop l bs all })
 
-    judge : (l : ℕ) (bs f rest : List ℕ) (at : ℕ) → All Byte bs → (r : Result (Unit {0}) Fault) → reading sc (take l bs) ≡ r →
+    judge : (l : ℕ) (bs f rest : List ℕ) (at : ℕ) → AllByRecursion Byte bs → (r : Result (Unit {0}) Fault) → reading sc (take l bs) ≡ r →
         judged whole at l bs r ≡ part f rest → Exact with_length (Sound sc) (l ∷ bs) f rest
     judge l bs f rest at all (Ok x) r e = passed (leb l (length bs)) (take l bs) f (drop l bs) rest _ (cut l bs f rest all r) e
     judge l bs f rest at all (Err x) r e = no_refusal e
 
-    back : (bs f rest : List ℕ) → All Byte bs → read_formula whole sc bs ≡ part f rest → Exact with_length (Sound sc) bs f rest
+    back : (bs f rest : List ℕ) → AllByRecursion Byte bs → read_formula whole sc bs ≡ part f rest → Exact with_length (Sound sc) bs f rest
     back [] f rest all e = no_refusal e
     back (l ∷ bs) f rest all e = judge l bs f rest _ all.1 (reading sc (take l bs)) refl e
 
@@ -104,7 +104,7 @@ joined_bytes s = omega (arith, div-add-mod s 256)
 start_inverse : (whole states : ℕ) → Inverse (read_start whole states) start_bytes (λ s. s < states)
 start_inverse whole states = record { back = back; forth = forth }
   where
-    parted : (l k s : ℕ) (bs rest : List ℕ) → All Byte (l ∷ k ∷ bs) → ltb (l + 256 * k) states ≡ true → l + 256 * k ≡ s → bs ≡ rest →
+    parted : (l k s : ℕ) (bs rest : List ℕ) → AllByRecursion Byte (l ∷ k ∷ bs) → ltb (l + 256 * k) states ≡ true → l + 256 * k ≡ s → bs ≡ rest →
         Exact start_bytes (λ s. s < states) (l ∷ k ∷ bs) s rest
     parted l k s bs rest all t same left =
         let turn : l + 256 * k ≡ k * 256 + l = omega arith in
@@ -116,7 +116,7 @@ start_inverse whole states = record { back = back; forth = forth }
           bytes = rw (← left) all.1.1;
         }
 
-    back : (bs : List ℕ) (s : ℕ) (rest : List ℕ) → All Byte bs → read_start whole states bs ≡ part s rest → Exact start_bytes (λ s. s < states) bs s rest
+    back : (bs : List ℕ) (s : ℕ) (rest : List ℕ) → AllByRecursion Byte bs → read_start whole states bs ≡ part s rest → Exact start_bytes (λ s. s < states) bs s rest
     back [] s rest all e = no_refusal e
     back (l ∷ []) s rest all e = no_refusal e
     back (l ∷ (k ∷ bs)) s rest all e =
@@ -127,15 +127,15 @@ start_inverse whole states = record { back = back; forth = forth }
 
 -- n parts, each with P
 abbrev pub Row : {A : Type 0} → (A → Type 0) → ℕ → List A → Type 0
-Row P n row = (length row ≡ n) × All P row
+Row P n row = (length row ≡ n) × AllByRecursion P row
 
 -- parts one after the other
-row_inverse : {A : Type 0} (step : List ℕ → Step A) (bytes_of : A → List ℕ) (P : A → Type 0) (all-bytes : List A → List ℕ) → Inverse step bytes_of P →
-    all-bytes [] ≡ [] → ((a : A) (more : List A) → all-bytes (a ∷ more) ≡ bytes_of a ++ all-bytes more) →
-    (n : ℕ) → Inverse (many step n) all-bytes (Row P n)
-row_inverse {A} step bytes_of P all-bytes one none some n = record { back = back n; forth = forth n }
+row_inverse : {A : Type 0} (step : List ℕ → Step A) (bytes_of : A → List ℕ) (P : A → Type 0) (all_bytes : List A → List ℕ) → Inverse step bytes_of P →
+    all_bytes [] ≡ [] → ((a : A) (more : List A) → all_bytes (a ∷ more) ≡ bytes_of a ++ all_bytes more) →
+    (n : ℕ) → Inverse (many step n) all_bytes (Row P n)
+row_inverse {A} step bytes_of P all_bytes one none some n = record { back = back n; forth = forth n }
   where
-    back : (n : ℕ) (bs : List ℕ) (row : List A) (rest : List ℕ) → All Byte bs → many step n bs ≡ part row rest → Exact all-bytes (Row P n) bs row rest
+    back : (n : ℕ) (bs : List ℕ) (row : List A) (rest : List ℕ) → AllByRecursion Byte bs → many step n bs ≡ part row rest → Exact all_bytes (Row P n) bs row rest
     back zero bs row rest all e =
         let empty : [] ≡ row = cc in
         let left : bs ≡ rest = cc in
@@ -151,18 +151,18 @@ row_inverse {A} step bytes_of P all-bytes one none some n = record { back = back
         exact_as whole left
         (record {
           sound = (ap suc y.sound.0, (x.sound, y.sound.1));
-          same = rw (some a more) (append_assoc (bytes_of a) (all-bytes more) r₂ ∙ ap (λ r. bytes_of a ++ r) y.same ∙ x.same);
+          same = rw (some a more) (append_assoc (bytes_of a) (all_bytes more) r₂ ∙ ap (λ r. bytes_of a ++ r) y.same ∙ x.same);
           bytes = y.bytes;
         })))
         e
 
-    forth : (n : ℕ) (row : List A) (rest : List ℕ) → Row P n row → many step n (all-bytes row ++ rest) ≡ part row rest
+    forth : (n : ℕ) (row : List A) (rest : List ℕ) → Row P n row → many step n (all_bytes row ++ rest) ≡ part row rest
     forth zero [] rest p = rw none refl
     forth zero (a ∷ row) rest p = absurd (omega (arith, p.0))
     forth (suc n) [] rest p = absurd (omega (arith, p.0))
     forth (suc n) (a ∷ row) rest p =
         let fewer : length row ≡ n = omega (arith, p.0) in
-        rw (some a row, append_assoc (bytes_of a) (all-bytes row) rest, one.forth a (all-bytes row ++ rest) p.1.0, forth n row rest (fewer, p.1.1)) refl
+        rw (some a row, append_assoc (bytes_of a) (all_bytes row) rest, one.forth a (all_bytes row ++ rest) p.1.0, forth n row rest (fewer, p.1.1)) refl
 
 -- formulas one after the other
 pub formulas_inverse : (whole : ℕ) (sc : Scope) (n : ℕ) → Inverse (many (read_formula whole sc) n) with_lengths (Row (Sound sc) n)
@@ -174,16 +174,16 @@ starts_inverse whole states = row_inverse _ start_bytes _ two_bytes (start_inver
 
 -- a count and that many parts
 abbrev pub Group : {A : Type 0} → (A → Type 0) → ℕ → ℕ → List A → Type 0
-Group P least most row = Within least most (length row) × All P row
+Group P least most row = Within least most (length row) × AllByRecursion P row
 
-counted_inverse : {A : Type 0} (whole least most : ℕ) (step : List ℕ → Step A) (P : A → Type 0) (all-bytes : List A → List ℕ) →
-    ((n : ℕ) → Inverse (many step n) all-bytes (Row P n)) →
-    Inverse (λ bs. then (read_count whole least most bs) (λ n rest. many step n rest)) (λ row. length row ∷ all-bytes row) (Group P least most)
-counted_inverse {A} whole least most step P all-bytes rows = record { back = back; forth = forth }
+counted_inverse : {A : Type 0} (whole least most : ℕ) (step : List ℕ → Step A) (P : A → Type 0) (all_bytes : List A → List ℕ) →
+    ((n : ℕ) → Inverse (many step n) all_bytes (Row P n)) →
+    Inverse (λ bs. then (read_count whole least most bs) (λ n rest. many step n rest)) (λ row. length row ∷ all_bytes row) (Group P least most)
+counted_inverse {A} whole least most step P all_bytes rows = record { back = back; forth = forth }
   where
-    back : (bs : List ℕ) (row : List A) (rest : List ℕ) → All Byte bs →
+    back : (bs : List ℕ) (row : List A) (rest : List ℕ) → AllByRecursion Byte bs →
         then (read_count whole least most bs) (λ n rest. many step n rest) ≡ part row rest →
-        Exact (λ row. length row ∷ all-bytes row) (Group P least most) bs row rest
+        Exact (λ row. length row ∷ all_bytes row) (Group P least most) bs row rest
     back bs row rest all e =
         went (read_count whole least most bs) _ row rest
         (λ n r₁ e₁ e₂.
@@ -197,9 +197,9 @@ counted_inverse {A} whole least most step P all-bytes rows = record { back = bac
         e
 
     forth : (row : List A) (rest : List ℕ) → Group P least most row →
-        then (read_count whole least most ((length row ∷ all-bytes row) ++ rest)) (λ n rest. many step n rest) ≡ part row rest
+        then (read_count whole least most ((length row ∷ all_bytes row) ++ rest)) (λ n rest. many step n rest) ≡ part row rest
     forth row rest p =
-        rw ((count_inverse whole least most).forth (length row) (all-bytes row ++ rest) p.0, (rows (length row)).forth row rest (refl, p.1)) refl
+        rw ((count_inverse whole least most).forth (length row) (all_bytes row ++ rest) p.0, (rows (length row)).forth row rest (refl, p.1)) refl
 
 pub group_inverse : (whole : ℕ) (sc : Scope) (least most : ℕ) →
     Inverse (read_group whole sc least most) (λ fs. length fs ∷ with_lengths fs) (Group (Sound sc) least most)

@@ -1,6 +1,6 @@
 -- Reading and writing whole rules files are inverse, both ways round.
 use Rattle.std.proofs.Common.{◌≡◌, ℕ, ◌^◌, ◌≤◌, Bool, true, false, cond, ltb, List, [], ◌∷◌, ◌++◌, length, get_or, Ok, Err, sym, refl, ap, ◌∙◌, append_assoc, append-nil, arith, take_all, w8, Fits}
-use Rattle.std.specs.List.{AllByRecursion as All}
+use Rattle.std.specs.List.{AllByRecursion}
 use Rattle.std.proofs.ByRecursion.{All-from_get_or}
 use Rattle.std.proofs.lemmas.Bool.{ltb-false}
 use Rattle.formula.specs.declared.scope.Scope.{Scope}
@@ -23,7 +23,7 @@ widths_bytes w = w.state ∷ w.moves ∷ w.answer ∷ []
 widths_inverse : (whole : ℕ) → Inverse (read_widths whole) widths_bytes Few
 widths_inverse whole = record { back = back; forth = forth }
   where
-    back : (bs : List ℕ) (w : Widths) (rest : List ℕ) → All Byte bs → read_widths whole bs ≡ part w rest → Exact widths_bytes Few bs w rest
+    back : (bs : List ℕ) (w : Widths) (rest : List ℕ) → AllByRecursion Byte bs → read_widths whole bs ≡ part w rest → Exact widths_bytes Few bs w rest
     back bs w rest all e =
         went (read_width whole 12 bs) _ w rest (λ s r₁ e₁. went (read_width whole 6 r₁) _ w rest (λ m r₂ e₂. went (read_width whole 6 r₂) _ w rest (λ a r₃ e₃ e₄.
         let x = (width_inverse whole 12).back bs s r₁ all e₁ in
@@ -62,7 +62,7 @@ three a b c rest = simp append_assoc
 steps_inverse : (whole : ℕ) (w : Widths) → Inverse (read_steps whole w) steps_bytes (SoundSteps w)
 steps_inverse whole w = record { back = back; forth = forth }
   where
-    back : (bs : List ℕ) (t : Triple) (rest : List ℕ) → All Byte bs → read_steps whole w bs ≡ part t rest → Exact steps_bytes (SoundSteps w) bs t rest
+    back : (bs : List ℕ) (t : Triple) (rest : List ℕ) → AllByRecursion Byte bs → read_steps whole w bs ≡ part t rest → Exact steps_bytes (SoundSteps w) bs t rest
     back bs t rest all e =
         went (read_formula whole (move_scope w.state w.moves) bs) _ t rest
         (λ m r₁ e₁. went (read_formula whole (step_scope w.state w.moves w.answer) r₁) _ t rest
@@ -173,7 +173,7 @@ written_read c v =
 
 -- The same for what a reader of rules promises: `file` are the bytes of a slice.
 -- the bytes of a slice are bytes
-pub slice_bytes : (xs : List ℕ) → ((i : ℕ) → Fits w8 (get_or xs i 0)) → All Byte xs
+pub slice_bytes : (xs : List ℕ) → ((i : ℕ) → Fits w8 (get_or xs i 0)) → AllByRecursion Byte xs
 slice_bytes xs h = All-from_get_or Byte xs 0 (λ i _. (h i).fits)
 
 -- what is valid and has these bytes is what was read

@@ -17,25 +17,25 @@ module _ (promises : ℕ) (promise : ℕ → ℕ → Bool) (rank waits : ℕ →
     abbrev Meets : ℕ → Type 0
     Meets = Later (λ m. met m ≡ true)
 
-    by-step : (n : ℕ) → (rank (suc n) < rank n → Meets (suc n)) → (Waits n → Meets n) → Meets n
-    by-step n falls waiting =
+    by_step : (n : ℕ) → (rank (suc n) < rank n → Meets (suc n)) → (Waits n → Meets n) → Meets n
+    by_step n falls waiting =
         ⊎_elim (here n) (λ e. ⊎_elim (λ l. next (falls l)) waiting (step n e)) (cases_Bool (met n))
 
     -- waiting for i, which holds at t
     wait : (n : ℕ) → ((m : ℕ) → rank m < rank n → Meets m) → (i t : ℕ) → promise i t ≡ true →
         (m : ℕ) → m ≤ t → rank m ≡ rank n → waits m ≡ i → Meets m
-    wait n lower i t at-t = up_to (promise i) t at-t (λ m. rank m ≡ rank n → waits m ≡ i → Meets m) go
+    wait n lower i t at_t = up_to (promise i) t at_t (λ m. rank m ≡ rank n → waits m ≡ i → Meets m) go
       where
         go : (m : ℕ) → (promise i m ≡ false → rank (suc m) ≡ rank n → waits (suc m) ≡ i → Meets (suc m)) →
             rank m ≡ rank n → waits m ≡ i → Meets m
-        go m later same for-i =
-            by-step m (λ falls. lower (suc m) (omega arith))
-            (λ w. next (later (subst (λ k. promise k m ≡ false) for-i w.3) (w.0 ∙ same) (w.1 ∙ for-i)))
+        go m later same for_i =
+            by_step m (λ falls. lower (suc m) (omega arith))
+            (λ w. next (later (subst (λ k. promise k m ≡ false) for_i w.3) (w.0 ∙ same) (w.1 ∙ for_i)))
 
     pub meets : Again met
     meets = by_rank rank Meets go
       where
         go : (n : ℕ) → ((m : ℕ) → rank m < rank n → Meets m) → Meets n
         go n lower =
-            by-step n (lower (suc n))
-            (λ w. let (t, l, at-t) = keeps (waits n) w.2 n in wait n lower (waits n) t at-t n l refl refl)
+            by_step n (lower (suc n))
+            (λ w. let (t, l, at_t) = keeps (waits n) w.2 n in wait n lower (waits n) t at_t n l refl refl)

@@ -9,7 +9,7 @@ use Rattle.game.specs.Theorems.{PlanWins}
 use Rattle.game.proofs.Descent.{here, and_then}
 use Rattle.game.proofs.Cycle.{turn_if, around}
 use Rattle.game.proofs.Waiting.{Waits, meets}
-use Rattle.game.proofs.Following.{follows, stays_on_plan, plan-answers, plan-progress}
+use Rattle.game.proofs.Following.{follows, stays_on_plan, plan_answers, plan_progress}
 
 -- a play without end through `state`, in which promises are kept, and goal `toward` is gone for at each time with progress
 module _ (g : Game) (p : Plan) (toward state : ℕ → ℕ) (below : (n : ℕ) → toward n < g.goals)
@@ -45,7 +45,7 @@ module _ (g : Game) (p : Plan) (toward state : ℕ → ℕ) (below : (n : ℕ) �
       and_then
       (around g.goals toward met turn below
       (meets g.promises (λ i m. g.promise i (state m)) rank waits keeps met step) j inside n)
-      (λ m (at_j, is-met). here m (subst (λ i. g.goal i (state m) ≡ true) at_j is-met))
+      (λ m (at_j, is_met). here m (subst (λ i. g.goal i (state m) ≡ true) at_j is_met))
 
 pub plan_wins : PlanWins
 unfolding now_after past
@@ -54,13 +54,13 @@ plan_wins g p s some holds known =
     let state = λ (es : ℕ → ℕ) (n : ℕ). (now_after g p s (past es n)).state in
     let on = stays_on_plan g p s some holds known in
     record {
-      answers = λ es n legal. plan-answers g p s holds es n (on es n (λ m l. legal m (omega arith))) (legal n (le_refl n));
+      answers = λ es n legal. plan_answers g p s holds es n (on es n (λ m l. legal m (omega arith))) (legal n (le_refl n));
       visits =
           λ es fair.
           let same = fun_ext (follows g p s es) in
-          let on-all = λ (n : ℕ). on es n (λ m l. fair.moves m) in
+          let on_all = λ (n : ℕ). on es n (λ m l. fair.moves m) in
           subst (λ (ss : ℕ → ℕ). (j : ℕ) → j < g.goals → Again (λ n. g.goal j (ss n))) (sym same)
-          (visits g p (toward es) (state es) (λ n. (on-all n).0) (λ n. refl)
-          (λ n. plan-progress g p s holds es n (on-all n) (fair.moves n))
+          (visits g p (toward es) (state es) (λ n. (on_all n).0) (λ n. refl)
+          (λ n. plan_progress g p s holds es n (on_all n) (fair.moves n))
           (subst (Fair g es) same fair).keeps);
     }

@@ -7,7 +7,7 @@
 --   starts_of            the states in a row of bytes, two bytes each
 --   steps_of, content    what the rules in a program's memory say
 use Rattle.std.specs.Prelude.{◌≡◌, ℕ, zero, suc, ◌+◌, ◌*◌, ◌/◌, ◌%◌, ◌^◌, ◌<◌, ◌≤◌, min, List, [], ◌∷◌, ◌++◌, length, take, drop, Ok, slice_index}
-use Rattle.std.specs.List.{AllByRecursion as All}
+use Rattle.std.specs.List.{AllByRecursion}
 use Rattle.formula.specs.declared.scope.Scope.{Scope}
 use Rattle.formula.specs.Reading.{reading}
 use Rattle.game.specs.declared.rules.StepRules.{StepRules}
@@ -51,15 +51,15 @@ pub record Valid (c : Content) : Type 0 where
   pub sound_moves : Sound (move_scope c.state c.moves) c.move_rule
   pub sound_answers : Sound (step_scope c.state c.moves c.answer) c.answer_rule
   pub each_bit : length c.next ≡ c.state
-  pub sound_next : All (Sound (step_scope c.state c.moves c.answer)) c.next
+  pub sound_next : AllByRecursion (Sound (step_scope c.state c.moves c.answer)) c.next
   pub few_promises : length c.promises ≤ 8
-  pub sound_promises : All (Sound (state_scope c.state)) c.promises
+  pub sound_promises : AllByRecursion (Sound (state_scope c.state)) c.promises
   pub some_goal : 1 ≤ length c.goals
   pub few_goals : length c.goals ≤ 8
-  pub sound_goals : All (Sound (state_scope c.state)) c.goals
+  pub sound_goals : AllByRecursion (Sound (state_scope c.state)) c.goals
   pub some_start : 1 ≤ length c.starts
   pub few_starts : length c.starts ≤ 16
-  pub sound_starts : All (λ s. s < 2 ^ c.state) c.starts
+  pub sound_starts : AllByRecursion (λ s. s < 2 ^ c.state) c.starts
 
 -- a formula's bytes after its length
 abbrev pub with_length : List ℕ → List ℕ

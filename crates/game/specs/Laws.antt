@@ -4,7 +4,7 @@
 --   fitted                                   rules as far as a length of one byte can say them
 --   Longer, Appended, Written                what a part of the writer promises, and the whole
 use Rattle.std.specs.Prelude.{◌≡◌, ℕ, ◌<◌, List, [], ◌++◌, take, Ok, Err, Result}
-use Rattle.std.specs.List.{AllByRecursion as All}
+use Rattle.std.specs.List.{AllByRecursion}
 use Rattle.game.specs.Content.{Content, Valid, file_of}
 use Rattle.game.specs.Reading.{part, rules_in}
 
@@ -15,7 +15,7 @@ Byte b = b < 256
 -- what was read is valid, and writes the bytes that it was read from
 abbrev pub RulesReadWritten : Type 0
 RulesReadWritten =
-    (file : List ℕ) (c : Content) → All Byte file → rules_in file ≡ part c [] → Valid c × (file_of c ≡ file)
+    (file : List ℕ) (c : Content) → AllByRecursion Byte file → rules_in file ≡ part c [] → Valid c × (file_of c ≡ file)
 
 -- what is valid is read from its bytes as what it was
 abbrev pub RulesWrittenRead : Type 0

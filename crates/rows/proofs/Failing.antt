@@ -2,7 +2,7 @@
 --   none_more, found, none_all, all_none   the first number at which a test fails: a step, the stop, and what none means
 --   all_more, all_fails, all_end, all_stop, each   a test of each number below a bound
 --   count_more, count_same                 a count
---   at-start, at_end, decides_verdict, sized       which verdict it is, and when it is acceptance
+--   at_start, at_end, decides_verdict, sized       which verdict it is, and when it is acceptance
 --   below, not_below, guard_then, guard_else       comparisons in the code
 --   under, implied, implies_by, and_assoc  tests that are asked only where another is true
 use Rattle.std.proofs.Common.{◌≡◌, ℕ, zero, suc, ◌+◌, ◌^◌, ◌<◌, ◌≤◌, Bool, true, false, cond, ◌&&◌, ltb, List, length, is_ok, Some, None, Ok, Err, Decides, Option, sym, refl, ap, ◌∙◌, ⊎_elim, add-one, arith}
@@ -77,9 +77,9 @@ count_same test n m e here = rw (add-one n, here) (omega (arith, e))
 -- the verdict where every state holds together: by the starts
 module _ (c : Content) (sound known : ℕ → Bool) (blame : ℕ → Refusal) (states : ℕ) (e : states ≡ 2 ^ c.state)
     (fine : None ≡ first_failing states sound) where
-  pub at-start : (n k : ℕ) → length c.starts ≡ n → Some k ≡ first_failing n (start_known known c.starts) →
+  pub at_start : (n k : ℕ) → length c.starts ≡ n → Some k ≡ first_failing n (start_known known c.starts) →
       Err (UnknownStart k) ≡ verdict_of c sound known blame
-  at-start n k l u = rw (← e, ← fine, l, ← u) refl
+  at_start n k l u = rw (← e, ← fine, l, ← u) refl
 
   pub at_end : (n m : ℕ) → length c.starts ≡ n → None ≡ first_failing n (start_known known c.starts) → m ≡ count_of states known →
       Ok (record { known = m }) ≡ verdict_of c sound known blame

@@ -42,14 +42,14 @@ column_more bytes b word i j d n h e c =
     let rest : 64 - j ≡ suc (64 - i) = omega arith in
     record {
       small = rw rest (omega (arith, pow-suc 2 (64 - i), c.small));
-      lanes = lane-by small;
+      lanes = lane_by small;
     }
   where
-    lane-by : d < 2 → (k : ℕ) → k < 64 - j → bit (2 * word + d) k ≡ bit (bytes (j + k)) b
-    lane-by t zero h =
+    lane_by : d < 2 → (k : ℕ) → k < 64 - j → bit (2 * word + d) k ≡ bit (bytes (j + k)) b
+    lane_by t zero h =
         let here : j + 0 ≡ j = omega arith in
         bit_low word d t ∙ ap (λ m. eqb m 1) (e ∙ ap (λ m. bytes m / 2 ^ b % 2) (sym here))
-    lane-by t (suc k) h =
+    lane_by t (suc k) h =
         let there : i + k ≡ j + suc k = omega arith in
         bit_front word d k t ∙ c.lanes k (omega arith) ∙ ap (λ m. bit (bytes m) b) there
 

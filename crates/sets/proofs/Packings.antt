@@ -153,7 +153,7 @@ spelt_fits n bs s e mask w before h spells q k =
 -- the number of one lane, read from its word
 pub field_spelt : (n m : ℕ) (bs : List ℕ) (s e mask a : ℕ) (packed : List ℕ) → m ≡ min n 12 → a < 64 →
     Spelt (formulas_of m bs) s e mask packed → field (get_or packed (a / 4) 0) (a % 4) ≡ spelt (formulas_of (min n 12) bs) s e mask a
-field_spelt n m bs s e mask a packed m-is h spells =
+field_spelt n m bs s e mask a packed m_is h spells =
     ap (λ x. field x (a % 4)) (spells (a / 4) (omega arith))
     ∙ field_four (spelt (formulas_of m bs) s e mask) a (λ l. omega (arith, spelt_below m bs s e mask l, pow_mono {i = m} {j = 12} (omega arith)))
-    ∙ ap (λ k. spelt (formulas_of k bs) s e mask a) m-is
+    ∙ ap (λ k. spelt (formulas_of k bs) s e mask a) m_is

@@ -55,10 +55,10 @@ row_end : (k w n : ℕ) → k < n → k * w + w ≤ n * w
 row_end k w n h = omega (arith, add-mul k 1 w, mul-le (k + 1) w n w (omega arith) (omega arith))
 
 pub row_within : (k w v n size : ℕ) → k < n → w ≡ v → size ≡ n * v → k * w + w ≤ size
-row_within k w v n size h w-is size_is = rw (w-is, size_is) (row_end k v n h)
+row_within k w v n size h w_is size_is = rw (w_is, size_is) (row_end k v n h)
 
 pub few_entries : (a b c n size : ℕ) → n ≡ 2 ^ min a 12 * 2 ^ min b 6 → size ≡ n * 2 ^ min c 6 → size ≤ 16777216
-few_entries a b c n size n-is size_is = rw (size_is, n-is) (most_entries a b c)
+few_entries a b c n size n_is size_is = rw (size_is, n_is) (most_entries a b c)
 
 pub row_length : (at w : ℕ) (xs : List ℕ) → at + w ≤ length xs → length (take (at + w - at) (drop at xs)) ≡ w
 row_length at w xs h = search (rules, places)
@@ -114,6 +114,6 @@ capped n bs i h =
 
 pub holding_bit : (n m : ℕ) (bs : List ℕ) (s x i : ℕ) → i < 8 → m ≡ min n 8 → x ≡ number (formulas_of m bs) s 0 0 →
     bit x i ≡ value_of (get_or (formulas_of n bs) i []) s 0 0
-holding_bit n m bs s x i h m-is x-is =
-    ap (λ y. bit y i) x-is ∙ number_bit m bs s 0 0 i
-    ∙ ap (λ k. value_of (get_or (formulas_of k bs) i []) s 0 0) m-is ∙ ap (λ f. value_of f s 0 0) (capped n bs i h)
+holding_bit n m bs s x i h m_is x_is =
+    ap (λ y. bit y i) x_is ∙ number_bit m bs s 0 0 i
+    ∙ ap (λ k. value_of (get_or (formulas_of k bs) i []) s 0 0) m_is ∙ ap (λ f. value_of f s 0 0) (capped n bs i h)

@@ -1,6 +1,6 @@
 -- The answers of the table, goal by goal, and that the table holds together.
---   answer-same     the same answer for ranks that are equal
---   answered-more   one more goal
+--   answer_same     the same answer for ranks that are equal
+--   answered_more   one more goal
 use Rattle.std.proofs.Common.{◌≡◌, ℕ, ◌+◌, ◌*◌, ◌<◌, ◌≤◌, Bool, true, false, ◌⊎◌, List, length, sym, refl, ap, ◌∙◌, subst, inl, inr, ⊎_elim, mul_comm, arith}
 use borrow.Rule.Slice.PartMut.{put_mid}
 use Rattle.std.proofs.lemmas.Nat.{mul-add-lt}
@@ -15,8 +15,8 @@ use Rattle.solver.proofs.Shrinks.{along4}
 
 module _ (g : Game) (n : ℕ) (bound : (s e a : ℕ) → g.after s e a < n) (Z : Set) (j : ℕ) (R W R' W' : ℕ → ℕ)
     (r : (s : ℕ) → s < n → R' s ≡ R s) (w : (s : ℕ) → s < n → W' s ≡ W s) where
-  pub fine-same : (s t : ℕ) → s < n → t < n → Fine g Z j Z R W s t → Fine g Z j Z R' W' s t
-  fine-same s t ls lt f = (
+  pub fine_same : (s t : ℕ) → s < n → t < n → Fine g Z j Z R W s t → Fine g Z j Z R' W' s t
+  fine_same s t ls lt f = (
     f.0,
     λ h. (
       f.0,
@@ -27,13 +27,13 @@ module _ (g : Game) (n : ℕ) (bound : (s e a : ℕ) → g.after s e a < n) (Z :
 
 module _ (g : Game) (n : ℕ) (bound : (s e a : ℕ) → g.after s e a < n) (Z : Set) (j : ℕ) (R W R' W' : ℕ → ℕ)
     (r : (s : ℕ) → s < n → R' s ≡ R s) (w : (s : ℕ) → s < n → W' s ≡ W s) where
-  pub answer-same : (s e v : ℕ) → s < n → Answer g Z j R W s e v → Answer g Z j R' W' s e v
-  answer-same s e v ls an =
+  pub answer_same : (s e v : ℕ) → s < n → Answer g Z j R W s e v → Answer g Z j R' W' s e v
+  answer_same s e v ls an =
       record {
         good = λ z m f.
-            let back = fine-same g n bound Z j R' W' R W (λ t l. sym (r t l)) (λ t l. sym (w t l)) in
+            let back = fine_same g n bound Z j R' W' R W (λ t l. sym (r t l)) (λ t l. sym (w t l)) in
             let got = an.good z m (f.0, f.1, back s _ ls (bound s e f.0) f.2) in
-            (got.0, fine-same g n bound Z j R W R' W' r w s _ ls (bound s e v) got.1);
+            (got.0, fine_same g n bound Z j R W R' W' r w s _ ls (bound s e v) got.1);
         outside = an.outside;
         illegal = an.illegal;
       }
@@ -45,13 +45,13 @@ Place g n m Z rank waits j p v = (s e : ℕ) → s < n → e < m → p ≡ s * m
 module _ (g : Game) (n m : ℕ) (bound : (s e a : ℕ) → g.after s e a < n) (Z : Set) (rank waits : ℕ → ℕ → ℕ) (j : ℕ) (answers part : List ℕ)
     (R W : ℕ → ℕ) (r : (s : ℕ) → s < n → rank j s ≡ R s) (w : (s : ℕ) → s < n → waits j s ≡ W s)
     (len : length part ≡ n * m) (fits : j * (n * m) + n * m ≤ length answers) where
-  pub answered-more : (e : ℕ) → e ≡ n * m → Answered g n m Z rank waits answers j → Rows (Answer g Z j R W) n m part →
+  pub answered_more : (e : ℕ) → e ≡ n * m → Answered g n m Z rank waits answers j → Rows (Answer g Z j R W) n m part →
       Answered g n m Z rank waits (put_mid (j * (n * m)) e answers part) (j + 1)
-  answered-more size q done here k s e lk ls le =
+  answered_more size q done here k s e lk ls le =
       rows_more (Place g n m Z rank waits) j (n * m) size answers part q len fits
       (λ i p li lp s' e' ls' le' at.
       subst (λ (x : ℕ). Answer g Z i (rank i) (waits i) s' e' (row answers (n * m) i x)) (sym at) (done i s' e' li ls' le'))
       (λ p lp s' e' ls' le' at.
-      answer-same g n bound Z j R W (rank j) (waits j) r w s' e' _ ls'
+      answer_same g n bound Z j R W (rank j) (waits j) r w s' e' _ ls'
       (subst (λ (x : ℕ). Answer g Z j R W s' e' (cell part x)) (sym at) (here s' e' ls' le')))
       k (s * m + e) lk (place_move s m e n ls le) s e ls le refl

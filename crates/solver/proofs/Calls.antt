@@ -16,14 +16,14 @@ pub record Front (k e : ℕ) (xs part : List ℕ) : Type 0 where
   pub len : length part ≡ length (take e xs)
 
 module _ (k e : ℕ) (xs part : List ℕ) (f : Front k e xs part) where
-  part-len : length part ≡ k
-  part-len = f.len ∙ (ap (λ (x : ℕ). length (take x xs)) f.size ∙ length-take-le k xs f.fits)
+  part_len : length part ≡ k
+  part_len = f.len ∙ (ap (λ (x : ℕ). length (take x xs)) f.size ∙ length-take-le k xs f.fits)
 
-  front-part : take k (part ++ drop e xs) ≡ part
-  front-part = take_at part (drop e xs) k part-len
+  front_part : take k (part ++ drop e xs) ≡ part
+  front_part = take_at part (drop e xs) k part_len
 
   front_rest : drop k (part ++ drop e xs) ≡ drop k xs
-  front_rest = drop_at part (drop e xs) k part-len ∙ ap (λ (x : ℕ). drop x xs) f.size
+  front_rest = drop_at part (drop e xs) k part_len ∙ ap (λ (x : ℕ). drop x xs) f.size
 
 pub solves_from : (a : Arena) (l p : Memory) (e₀ e₁ e₂ e₃ e₄ e₅ e₆ e₇ : ℕ) →
     Front a.states e₀ l.known p.known → Front (replies a) e₁ l.answers p.answers →
@@ -41,9 +41,9 @@ solves_from a l p e₀ e₁ e₂ e₃ e₄ e₅ e₆ e₇ f₀ f₁ f₂ f₃ f�
           (λ x y z w.
           Solution (arena_game a) a.states a.moves x y z w (take a.states (p.layers ++ drop e₄ l.layers)) (take a.states (p.avoids ++ drop e₅ l.avoids))
           (take (rows a) (p.moves ++ drop e₆ l.moves)) (take (rows a) (p.turned ++ drop e₇ l.turned)))
-          (front-part _ _ _ _ f₀) (front-part _ _ _ _ f₁) (front-part _ _ _ _ f₂) (front-part _ _ _ _ f₃)
+          (front_part _ _ _ _ f₀) (front_part _ _ _ _ f₁) (front_part _ _ _ _ f₂) (front_part _ _ _ _ f₃)
           (along4 (λ x y z w. Solution (arena_game a) a.states a.moves p.known p.answers p.ranks p.waits x y z w)
-          (front-part _ _ _ _ f₄) (front-part _ _ _ _ f₅) (front-part _ _ _ _ f₆) (front-part _ _ _ _ f₇) so);
+          (front_part _ _ _ _ f₄) (front_part _ _ _ _ f₅) (front_part _ _ _ _ f₆) (front_part _ _ _ _ f₇) so);
       beyond_table = (front_rest _ _ _ _ f₀, front_rest _ _ _ _ f₁, front_rest _ _ _ _ f₂, front_rest _ _ _ _ f₃);
       beyond_way = (front_rest _ _ _ _ f₄, front_rest _ _ _ _ f₅, front_rest _ _ _ _ f₆, front_rest _ _ _ _ f₇);
     }

@@ -1,7 +1,7 @@
 -- The outer loop: what is dropped is lost, and what is left last is the winning region.
 --   free_same       a free state stays free where its values stay
 --   lost_first      before the first round
---   lost-drop       dropping what a goal can't be reached from
+--   lost_drop       dropping what a goal can't be reached from
 --   won_now         where nothing is dropped, the goal is won
 --   won_same        the same for ranks that are equal
 use Rattle.std.proofs.Common.{◌≡◌, ℕ, zero, suc, ◌+◌, ◌<◌, ◌≤◌, Bool, true, false, not, ◌&&◌, ltb, ◌⊎◌, List, sym, refl, ap, ◌∙◌, subst, inl, inr, ⊎_elim, arith, ltb-true, lt-ltb}
@@ -65,9 +65,9 @@ no_promise : (k i : ℕ) → i < turns k → (i < k) ⊎ ((k ≡ 0) × (i ≡ 0)
 no_promise zero i l = inr (refl, omega arith)
 no_promise (suc k) i l = inl l
 
-module _ (g : Game) (n : ℕ) (bound : (s e a : ℕ) → g.after s e a < n) (Z : Set) (zone-below : (s : ℕ) → Z s ≡ true → s < n)
+module _ (g : Game) (n : ℕ) (bound : (s e a : ℕ) → g.after s e a < n) (Z : Set) (zone_below : (s : ℕ) → Z s ≡ true → s < n)
     (L A : ℕ → ℕ) (turns₀ turns₁ : List ℕ) (next : ℕ) (inv : Lost g n Z L A (row turns₀ n) next)
-    (j : ℕ) (a-goal : j < g.goals) (Y : Set) (R W : ℕ → ℕ) (att : Attained g n Z j Y R W turns₀ turns₁)
+    (j : ℕ) (a_goal : j < g.goals) (Y : Set) (R W : ℕ → ℕ) (att : Attained g n Z j Y R W turns₀ turns₁)
     (Z' : Set) (L' A' : ℕ → ℕ) (m : Marked (New Z Y) (Old Z Y) n false Z Z' next L L' j A A') where
   abbrev pub T₁ : ℕ → ℕ → ℕ
   T₁ = row turns₁ n
@@ -75,7 +75,7 @@ module _ (g : Game) (n : ℕ) (bound : (s e a : ℕ) → g.after s e a < n) (Z :
   cases : (s : ℕ) → (New Z Y s × (Z' s ≡ false) × (L' s ≡ next) × (A' s ≡ j)) ⊎ (Old Z Y s × (Z' s ≡ Z s) × (L' s ≡ L s) × (A' s ≡ A s))
   cases s =
       ⊎_elim (λ l. m.each s l)
-      (λ l. let r = m.rest s l in inr (λ z. absurd (omega (arith, zone-below s z)), r.0, r.1, r.2)) (cases_lt s n)
+      (λ l. let r = m.rest s l in inr (λ z. absurd (omega (arith, zone_below s z)), r.0, r.1, r.2)) (cases_lt s n)
 
   -- a state that was lost before is ds it was
   old : (s : ℕ) → Z s ≡ false → (Z' s ≡ false) × (L' s ≡ L s) × (A' s ≡ A s)
@@ -85,11 +85,11 @@ module _ (g : Game) (n : ℕ) (bound : (s e a : ℕ) → g.after s e a < n) (Z :
   new : (s : ℕ) → Z s ≡ true → Y s ≡ false → (Z' s ≡ false) × (L' s ≡ next) × (A' s ≡ j)
   new s z o = ⊎_elim (λ c. (c.1, c.2, c.3)) (λ c. absurd (both_ways (Y s) o (c.0 z))) (cases s)
 
-  flat-now : (s : ℕ) → g.promises ≡ 0 → s < n → T₁ 0 s ≡ 0
-  flat-now s e l = att.beyond 0 s (omega arith) l ∙ inv.flat s e l
+  flat_now : (s : ℕ) → g.promises ≡ 0 → s < n → T₁ 0 s ≡ 0
+  flat_now s e l = att.beyond 0 s (omega arith) l ∙ inv.flat s e l
 
-  turn-same : (i s : ℕ) → i < turns g.promises → s < n → Z s ≡ false → T₁ i s ≡ row turns₀ n i s
-  turn-same i s li l z =
+  turn_same : (i s : ℕ) → i < turns g.promises → s < n → Z s ≡ false → T₁ i s ≡ row turns₀ n i s
+  turn_same i s li l z =
       ⊎_elim (λ lt. att.outside i s lt l z) (λ p. att.beyond i s (omega (arith, p.0)) l) (no_promise g.promises i li)
 
   is_known : (t : ℕ) → t < n → Z' t ≡ false → (ltb t n && not (Z' t)) ≡ true
@@ -103,14 +103,14 @@ module _ (g : Game) (n : ℕ) (bound : (s e a : ℕ) → g.after s e a < n) (Z :
   level : (i s t : ℕ) → L' s ≡ next → A' s ≡ j → g.goal j s ≡ false → t < n → Z t ≡ true → Y t ≡ false →
       ((kept g i s ≡ true) ⊎ ((kept g i s ≡ false) × (0 < g.promises) × (T₁ i t < T₁ i s)) ⊎ ((g.promises ≡ 0) × (T₁ i t ≡ T₁ i s))) →
       Free g (losing n Z' L' A' (λ _ _. 0) T₁) i s t
-  level i s t ls ds no-goal l z o onward =
+  level i s t ls ds no_goal l z o onward =
       let w = new t z o in (
         is_known t l w.0,
         inr (
           w.1 ∙ sym ls,
           w.2 ∙ sym ds,
-          subst (λ (x : ℕ). x < g.goals) (sym ds) a-goal,
-          subst (λ (x : ℕ). g.goal x s ≡ false) (sym ds) no-goal,
+          subst (λ (x : ℕ). x < g.goals) (sym ds) a_goal,
+          subst (λ (x : ℕ). g.goal x s ≡ false) (sym ds) no_goal,
           onward,
         ),
       )
@@ -123,94 +123,94 @@ module _ (g : Game) (n : ℕ) (bound : (s e a : ℕ) → g.after s e a < n) (Z :
     ds = (new s z o).2
 
     -- what is barred and not in Z is absurd
-    in-zone : (t : ℕ) → t < n → Barred g n Z' L' A' T₁ i s t → Z t ≡ true
-    in-zone t lt bar = ⊎_elim (λ h. h) (λ h. absurd (bar (lower i s t ls lt h))) (cases_Bool (Z t))
+    in_zone : (t : ℕ) → t < n → Barred g n Z' L' A' T₁ i s t → Z t ≡ true
+    in_zone t lt bar = ⊎_elim (λ h. h) (λ h. absurd (bar (lower i s t ls lt h))) (cases_Bool (Z t))
 
     -- where the step goes onward to each state dropped now, what is barred is in Y
     in_reach : g.goal j s ≡ false →
         ((t : ℕ) → t < n → (kept g i s ≡ true) ⊎ ((kept g i s ≡ false) × (0 < g.promises) × (T₁ i t < T₁ i s)) ⊎ ((g.promises ≡ 0) × (T₁ i t ≡ T₁ i s))) →
         (t : ℕ) → t < n → Barred g n Z' L' A' T₁ i s t → Y t ≡ true
-    in_reach no-goal onward t lt bar =
-        ⊎_elim (λ h. h) (λ h. absurd (bar (level i s t ls ds no-goal lt (in-zone t lt bar) h (onward t lt)))) (cases_Bool (Y t))
+    in_reach no_goal onward t lt bar =
+        ⊎_elim (λ h. h) (λ h. absurd (bar (level i s t ls ds no_goal lt (in_zone t lt bar) h (onward t lt)))) (cases_Bool (Y t))
 
-    not-forced : Cpre g (In Y) s → ⊥
-    not-forced c = both_ways (Y s) o (att.base s z (inr c))
+    not_forced : Cpre g (In Y) s → ⊥
+    not_forced c = both_ways (Y s) o (att.base s z (inr c))
 
     -- what is barred was not yet taken out at the turn of s
-    in-later : g.goal j s ≡ false → kept g i s ≡ false → 0 < g.promises →
+    in_later : g.goal j s ≡ false → kept g i s ≡ false → 0 < g.promises →
         (t : ℕ) → t < n → Barred g n Z' L' A' T₁ i s t → Later Z Y (T₁ i) (T₁ i s) t
-    in-later no-goal no-kept some t lt bar = (in-zone t lt bar, go (cases_Bool (Y t)) (cases_lt (T₁ i t) (T₁ i s)))
+    in_later no_goal no_kept some t lt bar = (in_zone t lt bar, go (cases_Bool (Y t)) (cases_lt (T₁ i t) (T₁ i s)))
       where
         go : (Y t ≡ true) ⊎ (Y t ≡ false) → (T₁ i t < T₁ i s) ⊎ (T₁ i s ≤ T₁ i t) → (Y t ≡ true) ⊎ (T₁ i s ≤ T₁ i t)
         go (inl y) w = inl y
         go (inr y) (inr le) = inr le
         go (inr y) (inl less) =
-            absurd (bar (level i s t ls ds no-goal lt (in-zone t lt bar) y (inr (inl (no-kept, some, less)))))
+            absurd (bar (level i s t ls ds no_goal lt (in_zone t lt bar) y (inr (inl (no_kept, some, less)))))
 
     waits : i < g.promises → kept g i s ≡ false → g.promise i s ≡ false
-    waits lt no-kept =
-        ⊎_elim (λ p. absurd (both_ways (kept g i s) no-kept (and_from _ _ (lt-ltb i g.promises lt) p))) (λ p. p) (cases_Bool (g.promise i s))
+    waits lt no_kept =
+        ⊎_elim (λ p. absurd (both_ways (kept g i s) no_kept (and_from _ _ (lt-ltb i g.promises lt) p))) (λ p. p) (cases_Bool (g.promise i s))
 
     unkept : g.goal j s ≡ false → kept g i s ≡ false → (i < g.promises) ⊎ ((g.promises ≡ 0) × (i ≡ 0)) →
         Cpre g (Barred g n Z' L' A' T₁ i s) s → ⊥
-    unkept no-goal no-kept (inl lt) c =
+    unkept no_goal no_kept (inl lt) c =
         att.turned i s lt z o (
           lt,
-          waits lt no-kept,
-          cpre_below g n (Barred g n Z' L' A' T₁ i s) (Later Z Y (T₁ i) (T₁ i s)) s bound (in-later no-goal no-kept (omega arith)) c,
+          waits lt no_kept,
+          cpre_below g n (Barred g n Z' L' A' T₁ i s) (Later Z Y (T₁ i) (T₁ i s)) s bound (in_later no_goal no_kept (omega arith)) c,
         )
-    unkept no-goal no-kept (inr (e, i0)) c =
-        not-forced
+    unkept no_goal no_kept (inr (e, i0)) c =
+        not_forced
         (cpre_below g n (Barred g n Z' L' A' T₁ i s) (In Y) s bound
-        (in_reach no-goal (λ t lt. inr (inr (e, zero_turn t lt ∙ sym (zero_turn s l))))) c)
+        (in_reach no_goal (λ t lt. inr (inr (e, zero_turn t lt ∙ sym (zero_turn s l))))) c)
       where
         zero_turn : (t : ℕ) → t < n → T₁ i t ≡ 0
-        zero_turn t lt = subst (λ (x : ℕ). T₁ x t ≡ 0) (sym i0) (flat-now t e lt)
+        zero_turn t lt = subst (λ (x : ℕ). T₁ x t ≡ 0) (sym i0) (flat_now t e lt)
 
-    dropped-now : Cpre g (Barred g n Z' L' A' T₁ i s) s → ⊥
-    dropped-now c = by-goal (cases_Bool (g.goal j s))
+    dropped_now : Cpre g (Barred g n Z' L' A' T₁ i s) s → ⊥
+    dropped_now c = by_goal (cases_Bool (g.goal j s))
       where
-        by-kept : g.goal j s ≡ false → (kept g i s ≡ true) ⊎ (kept g i s ≡ false) → ⊥
-        by-kept no-goal (inl k) =
-            not-forced (cpre_below g n (Barred g n Z' L' A' T₁ i s) (In Y) s bound (in_reach no-goal (λ t lt. inl k)) c)
-        by-kept no-goal (inr k) = unkept no-goal k (no_promise g.promises i li) c
+        by_kept : g.goal j s ≡ false → (kept g i s ≡ true) ⊎ (kept g i s ≡ false) → ⊥
+        by_kept no_goal (inl k) =
+            not_forced (cpre_below g n (Barred g n Z' L' A' T₁ i s) (In Y) s bound (in_reach no_goal (λ t lt. inl k)) c)
+        by_kept no_goal (inr k) = unkept no_goal k (no_promise g.promises i li) c
 
-        by-goal : (g.goal j s ≡ true) ⊎ (g.goal j s ≡ false) → ⊥
-        by-goal (inl h) =
-            both_ways (Y s) o (att.base s z (inl (h, cpre_below g n (Barred g n Z' L' A' T₁ i s) (In Z) s bound in-zone c)))
-        by-goal (inr h) = by-kept h (cases_Bool (kept g i s))
+        by_goal : (g.goal j s ≡ true) ⊎ (g.goal j s ≡ false) → ⊥
+        by_goal (inl h) =
+            both_ways (Y s) o (att.base s z (inl (h, cpre_below g n (Barred g n Z' L' A' T₁ i s) (In Z) s bound in_zone c)))
+        by_goal (inr h) = by_kept h (cases_Bool (kept g i s))
 
-  dropped-before : (i s : ℕ) → i < turns g.promises → s < n → Z s ≡ false → Cpre g (Barred g n Z' L' A' T₁ i s) s → ⊥
-  dropped-before i s li l z c =
+  dropped_before : (i s : ℕ) → i < turns g.promises → s < n → Z s ≡ false → Cpre g (Barred g n Z' L' A' T₁ i s) s → ⊥
+  dropped_before i s li l z c =
       inv.escapes i s li l z
       (cpre_below g n (Barred g n Z' L' A' T₁ i s) (Barred g n Z L A (row turns₀ n) i s) s bound
       (λ t lt bar free.
       let zt : Z t ≡ false = not-true (Z t) (and_parts (ltb t n) (not (Z t)) free.0).1 in
       bar (free_same g n Z Z' L L' A A' (λ _ _. 0) (λ _ _. 0) (row turns₀ n) T₁ i s t (λ h. (old t h).0)
-      (old s z).1 (old t zt).1 (old s z).2 (old t zt).2 (turn-same i s li l z) (turn-same i t li lt zt) free)) c)
+      (old s z).1 (old t zt).1 (old s z).2 (old t zt).2 (turn_same i s li l z) (turn_same i t li lt zt) free)) c)
 
-  stays-in : (V : Set) → Kept (Outer g n) V → Within V Z'
-  stays-in V kept s v =
+  stays_in : (V : Set) → Kept (Outer g n) V → Within V Z'
+  stays_in V kept s v =
       let z : Z s ≡ true = inv.most V kept s v in
-      let y : Y s ≡ true = (kept s v).1 j a-goal Y (λ t mid. att.least.closed t (middle_mono g V Z j Y t (inv.most V kept) mid)) in
+      let y : Y s ≡ true = (kept s v).1 j a_goal Y (λ t mid. att.least.closed t (middle_mono g V Z j Y t (inv.most V kept) mid)) in
       ⊎_elim (λ c. absurd (both_ways (Y s) c.0.1 y)) (λ c. c.1 ∙ z) (cases s)
 
-  pub lost-drop : (next' : ℕ) → next ≤ next' → next' + count n Z' ≤ next + count n Z → ((s : ℕ) → New Z Y s → next < next') →
+  pub lost_drop : (next' : ℕ) → next ≤ next' → next' + count n Z' ≤ next + count n Z → ((s : ℕ) → New Z Y s → next < next') →
       Lost g n Z' L' A' T₁ next'
-  lost-drop next' up few some =
+  lost_drop next' up few some =
       record {
-        most = stays-in;
+        most = stays_in;
         layered = λ s l z'.
             ⊎_elim (λ c. omega (arith, c.2, some s c.0)) (λ c. omega (arith, c.2, inv.layered s l (sym c.1 ∙ z'))) (cases s);
         avoided = λ s l z'.
-            ⊎_elim (λ c. subst (λ (x : ℕ). x < g.goals) (sym c.3) a-goal)
+            ⊎_elim (λ c. subst (λ (x : ℕ). x < g.goals) (sym c.3) a_goal)
             (λ c. subst (λ (x : ℕ). x < g.goals) (sym c.3) (inv.avoided s l (sym c.1 ∙ z'))) (cases s);
         escapes = λ i s li l z'.
-            ⊎_elim (λ c. dropped-now i s li l c.0.0 c.0.1) (λ c. dropped-before i s li l (sym c.1 ∙ z')) (cases s);
+            ⊎_elim (λ c. dropped_now i s li l c.0.0 c.0.1) (λ c. dropped_before i s li l (sym c.1 ∙ z')) (cases s);
         unused = λ s z'.
             ⊎_elim (λ c. absurd (both_ways (Z' s) c.1 z'))
             (λ c. let u = inv.unused s (sym c.1 ∙ z') in (c.2 ∙ u.0, c.3 ∙ u.1)) (cases s);
-        flat = flat-now;
+        flat = flat_now;
         left = omega (arith, few, inv.left);
       }
 

@@ -44,21 +44,21 @@ module _ (g : Game) (n : ℕ) (bound : (s e a : ℕ) → g.after s e a < n) (Z :
     (inv : Moved g n Z L A turned₀ i turned moves)
     (T T' T'' : ℕ → ℕ) (cl : Cleared Z T T' n) (turned' : List ℕ)
     (was : (s : ℕ) → s < n → T s ≡ row turned n i s)
-    (t-here : (s : ℕ) → s < n → row turned' n i s ≡ T' s)
-    (t-there : (k s : ℕ) → (k ≡ i → ⊥) → s < n → row turned' n k s ≡ row turned n k s)
+    (t_here : (s : ℕ) → s < n → row turned' n i s ≡ T' s)
+    (t_there : (k s : ℕ) → (k ≡ i → ⊥) → s < n → row turned' n k s ≡ row turned n k s)
     (seen : (s : ℕ) → s < n → T'' s ≡ row turned' n i s)
     (V : List ℕ) (moves' : List ℕ) (mv : Cells (Move g Z L A T'' i) n V)
-    (m-here : (s : ℕ) → s < n → row moves' n i s ≡ cell V s)
-    (m-there : (k s : ℕ) → (k ≡ i → ⊥) → s < n → row moves' n k s ≡ row moves n k s) where
+    (m_here : (s : ℕ) → s < n → row moves' n i s ≡ cell V s)
+    (m_there : (k s : ℕ) → (k ≡ i → ⊥) → s < n → row moves' n k s ≡ row moves n k s) where
   here : (s : ℕ) → s < n → Move g Z L A (row turned' n i) i s (row moves' n i s)
   here s l =
-      subst (Move g Z L A (row turned' n i) i s) (sym (m-here s l))
+      subst (Move g Z L A (row turned' n i) i s) (sym (m_here s l))
       (move_same g n bound Z L A T'' (row turned' n i) i s (cell V s) l (λ t lt. sym (seen t lt)) (mv s l))
 
   there : (k s : ℕ) → (k ≡ i → ⊥) → k < i → s < n → Move g Z L A (row turned' n k) k s (row moves' n k s)
   there k s ne lk l =
-      subst (Move g Z L A (row turned' n k) k s) (sym (m-there k s ne l))
-      (move_same g n bound Z L A (row turned n k) (row turned' n k) k s (row moves n k s) l (λ t lt. t-there k t ne lt) (inv.move k s lk l))
+      subst (Move g Z L A (row turned' n k) k s) (sym (m_there k s ne l))
+      (move_same g n bound Z L A (row turned n k) (row turned' n k) k s (row moves n k s) l (λ t lt. t_there k t ne lt) (inv.move k s lk l))
 
   pub moved_more : Moved g n Z L A turned₀ (i + 1) turned' moves'
   moved_more =
@@ -67,9 +67,9 @@ module _ (g : Game) (n : ℕ) (bound : (s e a : ℕ) → g.after s e a < n) (Z :
             ⊎_elim (λ p. subst (λ (x : ℕ). Move g Z L A (row turned' n x) x s (row moves' n x s)) (sym p) (here s l))
             (λ ne. there k s ne (omega arith) l) (cases_eq k i);
         won = λ k s lk l z.
-            ⊎_elim (λ p. subst (λ (x : ℕ). row turned' n x s ≡ 0) (sym p) (t-here s l ∙ cl.won s l z))
-            (λ ne. t-there k s ne l ∙ inv.won k s (omega arith) l z) (cases_eq k i);
+            ⊎_elim (λ p. subst (λ (x : ℕ). row turned' n x s ≡ 0) (sym p) (t_here s l ∙ cl.won s l z))
+            (λ ne. t_there k s ne l ∙ inv.won k s (omega arith) l z) (cases_eq k i);
         lost = λ k s l z.
-            ⊎_elim (λ p. subst (λ (x : ℕ). row turned' n x s ≡ row turned₀ n x s) (sym p) (t-here s l ∙ (cl.lost s z ∙ (was s l ∙ inv.lost i s l z))))
-            (λ ne. t-there k s ne l ∙ inv.lost k s l z) (cases_eq k i);
+            ⊎_elim (λ p. subst (λ (x : ℕ). row turned' n x s ≡ row turned₀ n x s) (sym p) (t_here s l ∙ (cl.lost s z ∙ (was s l ∙ inv.lost i s l z))))
+            (λ ne. t_there k s ne l ∙ inv.lost k s l z) (cases_eq k i);
       }

@@ -7,7 +7,7 @@
 --   beyond_at, rest_same   the same at equal sizes; of one slice
 --   lacks_table, lacks_way   what is the first kind of slices that is too short
 --   rules_call     from rules that were read to the file
---   solves-rules   what solves the arena solves the game of the rules
+--   solves_rules   what solves the arena solves the game of the rules
 use Rattle.std.proofs.Common.{◌≡◌, ℕ, zero, suc, ◌+◌, ◌*◌, ◌^◌, ◌<◌, ◌≤◌, max, Bool, true, false, cond, not, ◌&&◌, ltb, ◌⊎◌, List, [], ◌++◌, length, take, drop, Ok, Err, Decides, Result, sym, refl, ap, ◌∙◌, subst, inl, inr, arith, length-append, length-drop, lt-ltb}
 use Rattle.std.proofs.lemmas.List.{drop_at}
 use Rattle.std.proofs.lemmas.Bool.{and_from, not_from_false}
@@ -75,11 +75,11 @@ rest_same k e xs ys q p f =
 unused_agrees : (g h : Game) (n m : ℕ) (known answers ranks waits layers avoids moves turned : List ℕ) → Agree g h →
     Unused g n m known answers ranks waits layers avoids moves turned → Unused h n m known answers ranks waits layers avoids moves turned
 unused_agrees g h n m known answers ranks waits layers avoids moves turned ag u =
-    let in-goals = λ (j : ℕ) (lj : j < h.goals). subst (λ (k : ℕ). j < k) (sym ag.goals) lj in
+    let in_goals = λ (j : ℕ) (lj : j < h.goals). subst (λ (k : ℕ). j < k) (sym ag.goals) lj in
     record {
-      answer = λ j s e lj ls le k. u.answer j s e (in-goals j lj) ls le k;
-      illegal = λ j s e lj ls le k. u.illegal j s e (in-goals j lj) ls le (ag.moves s e ∙ k);
-      rank = λ j s lj ls k. u.rank j s (in-goals j lj) ls k;
+      answer = λ j s e lj ls le k. u.answer j s e (in_goals j lj) ls le k;
+      illegal = λ j s e lj ls le k. u.illegal j s e (in_goals j lj) ls le (ag.moves s e ∙ k);
+      rank = λ j s lj ls k. u.rank j s (in_goals j lj) ls k;
       layer = λ s ls k. u.layer s ls k;
       move = λ i s li ls k. u.move i s (subst (λ (p : ℕ). i < turns p) (sym ag.promises) li) ls k;
     }
@@ -115,8 +115,8 @@ module _ (c : Content) (a : Arena) (l l' : Lent) (v : Valid c) (ag : Agree (aren
       subst (λ (z : Sizes). ZerosAt (game_of c) z l'.answer) e
       (unused_agrees (arena_game a) (game_of c) _ _ _ _ _ _ _ _ _ _ ag so.solution.unused)
 
-  all-beyond : BeyondGame (sizes_of c) l l' → Beyond (sizes_of c) l l'
-  all-beyond b =
+  all_beyond : BeyondGame (sizes_of c) l l' → Beyond (sizes_of c) l l'
+  all_beyond b =
       let t =
       subst (λ (z : Sizes). (drop z.states l'.answer.known ≡ drop z.states l.answer.known) × (drop (reply_count z) l'.answer.answers ≡ drop (reply_count z) l.answer.answers)
       × (drop (entry_count z) l'.answer.ranks ≡ drop (entry_count z) l.answer.ranks) × (drop (entry_count z) l'.answer.waits ≡ drop (entry_count z) l.answer.waits)) e so.beyond_table in
@@ -139,9 +139,9 @@ module _ (c : Content) (a : Arena) (l l' : Lent) (v : Valid c) (ag : Agree (aren
         turned = w.3;
       }
 
-  pub solves-rules : (rounds : ℕ) → AllFits (sizes_of c) l → 0 < rounds → rounds ≤ a.states + 1 → BeyondGame (sizes_of c) l l' →
+  pub solves_rules : (rounds : ℕ) → AllFits (sizes_of c) l → 0 < rounds → rounds ≤ a.states + 1 → BeyondGame (sizes_of c) l l' →
       SolvesRules c l l' rounds
-  solves-rules rounds f some most b =
+  solves_rules rounds f some most b =
       record {
         fits = f;
         plan_holds = plan;
@@ -154,7 +154,7 @@ module _ (c : Content) (a : Arena) (l l' : Lent) (v : Valid c) (ag : Agree (aren
         zeros = zeros;
         some_round = some;
         most_rounds = subst (λ (z : Sizes). rounds ≤ z.states + 1) e most;
-        beyond = all-beyond b;
+        beyond = all_beyond b;
       }
 
 never : (b : Bool) → b ≡ true → b ≡ false → ⊥

@@ -1,6 +1,6 @@
 -- One round of the outer loop, and the loop as a whole.
 --   passed_none   before the first goal
---   passed-more   one more goal
+--   passed_more   one more goal
 --   solved        a round that drops nothing ends it
 use Rattle.std.proofs.Common.{◌≡◌, ℕ, ◌+◌, ◌<◌, ◌≤◌, Bool, true, false, ◌⊎◌, List, sym, refl, ap, ◌∙◌, subst, inl, inr, ⊎_elim, arith}
 use Rattle.std.proofs.lemmas.Bool.{cases_eq}
@@ -12,8 +12,8 @@ use Rattle.solver.specs.Region.{Outer}
 use Rattle.solver.specs.Reasons.{cell, row}
 use Rattle.solver.specs.Reach.{Attained}
 use Rattle.solver.specs.Settle.{Dropped, Won, Lost, Passed, Solved}
-use Rattle.solver.proofs.Drops.{dropped-some, dropped-quiet}
-use Rattle.solver.proofs.Layers.{lost-drop, won_now, won_same}
+use Rattle.solver.proofs.Drops.{dropped_some, dropped_quiet}
+use Rattle.solver.proofs.Layers.{lost_drop, won_now, won_same}
 
 pub passed_none : (g : Game) (n : ℕ) (zone layers avoids ranks waits turned : List ℕ) (next : ℕ) →
     Lost g n (member zone) (cell layers) (cell avoids) (row turned n) next →
@@ -23,51 +23,51 @@ passed_none g n zone layers avoids ranks waits turned next inv =
 
 module _ (g : Game) (n : ℕ) (bound : (s e a : ℕ) → g.after s e a < n) (zone₀ : List ℕ) (next₀ j : ℕ)
     (zone layers avoids ranks waits turned : List ℕ) (next : ℕ)
-    (inv : Passed g n zone₀ next₀ j zone layers avoids ranks waits turned next) (a-goal : j < g.goals) (fits : room zone ≡ n)
+    (inv : Passed g n zone₀ next₀ j zone layers avoids ranks waits turned next) (a_goal : j < g.goals) (fits : room zone ≡ n)
     (reach : List ℕ) (R W : ℕ → ℕ) (turned' : List ℕ) (att : Attained g n (member zone) j (member reach) R W turned turned')
     (ranks' waits' : List ℕ)
-    (r-here : (s : ℕ) → s < n → row ranks' n j s ≡ R s) (r-there : (k s : ℕ) → (k ≡ j → ⊥) → s < n → row ranks' n k s ≡ row ranks n k s)
-    (w-here : (s : ℕ) → s < n → row waits' n j s ≡ W s) (w-there : (k s : ℕ) → (k ≡ j → ⊥) → s < n → row waits' n k s ≡ row waits n k s)
+    (r_here : (s : ℕ) → s < n → row ranks' n j s ≡ R s) (r_there : (k s : ℕ) → (k ≡ j → ⊥) → s < n → row ranks' n k s ≡ row ranks n k s)
+    (w_here : (s : ℕ) → s < n → row waits' n j s ≡ W s) (w_there : (k s : ℕ) → (k ≡ j → ⊥) → s < n → row waits' n k s ≡ row waits n k s)
     (zone' layers' avoids' : List ℕ) (next' : ℕ)
     (d : Dropped n zone reach layers avoids next j n zone' layers' avoids' next') where
   below : (s : ℕ) → member zone s ≡ true → s < n
   below s z = omega (arith, member_below zone s z)
 
   module _ (q : next' ≡ next₀) where
-    no-layer : next ≡ next₀
-    no-layer = omega (arith, inv.up, d.up)
+    no_layer : next ≡ next₀
+    no_layer = omega (arith, inv.up, d.up)
 
     none : next' ≡ next
-    none = omega (arith, no-layer)
+    none = omega (arith, no_layer)
 
     below₀ : (s : ℕ) → member zone₀ s ≡ true → s < n
-    below₀ s z = below s (ap (λ (l : List ℕ). member l s) (inv.same no-layer) ∙ z)
+    below₀ s z = below s (ap (λ (l : List ℕ). member l s) (inv.same no_layer) ∙ z)
 
     here : Won g n (member zone₀) j (row ranks' n j) (row waits' n j)
     here =
-        subst (λ (l : List ℕ). Won g n (member l) j (row ranks' n j) (row waits' n j)) (inv.same no-layer)
-        (won_same g n (member zone) j R W (row ranks' n j) (row waits' n j) below r-here w-here
+        subst (λ (l : List ℕ). Won g n (member l) j (row ranks' n j) (row waits' n j)) (inv.same no_layer)
+        (won_same g n (member zone) j R W (row ranks' n j) (row waits' n j) below r_here w_here
         (won_now g n (member zone) j (member reach) R W turned turned' att
-        (dropped-quiet n zone reach layers avoids next j zone' layers' avoids' next' fits d none)))
+        (dropped_quiet n zone reach layers avoids next j zone' layers' avoids' next' fits d none)))
 
-    won-more : (k : ℕ) → k < j + 1 → Won g n (member zone₀) k (row ranks' n k) (row waits' n k)
-    won-more k l =
+    won_more : (k : ℕ) → k < j + 1 → Won g n (member zone₀) k (row ranks' n k) (row waits' n k)
+    won_more k l =
         ⊎_elim (λ p. subst (λ (x : ℕ). Won g n (member zone₀) x (row ranks' n x) (row waits' n x)) (sym p) here)
         (λ ne.
         won_same g n (member zone₀) k (row ranks n k) (row waits n k) (row ranks' n k) (row waits' n k) below₀
-        (λ s m. r-there k s ne m) (λ s m. w-there k s ne m) (inv.won no-layer k (omega arith)))
+        (λ s m. r_there k s ne m) (λ s m. w_there k s ne m) (inv.won no_layer k (omega arith)))
         (cases_eq k j)
 
-  pub passed-more : Passed g n zone₀ next₀ (j + 1) zone' layers' avoids' ranks' waits' turned' next'
-  passed-more =
+  pub passed_more : Passed g n zone₀ next₀ (j + 1) zone' layers' avoids' ranks' waits' turned' next'
+  passed_more =
       record {
         lost =
-            lost-drop g n bound (member zone) below (cell layers) (cell avoids) turned turned' next inv.lost j a-goal (member reach) R W att
+            lost_drop g n bound (member zone) below (cell layers) (cell avoids) turned turned' next inv.lost j a_goal (member reach) R W att
             (member zone') (cell layers') (cell avoids') d.marked next' d.up d.left
-            (dropped-some n zone reach layers avoids next j zone' layers' avoids' next' fits d);
+            (dropped_some n zone reach layers avoids next j zone' layers' avoids' next' fits d);
         up = omega (arith, inv.up, d.up);
-        same = λ q. d.same (none q) ∙ inv.same (no-layer q);
-        won = won-more;
+        same = λ q. d.same (none q) ∙ inv.same (no_layer q);
+        won = won_more;
       }
 
 pub solved : (g : Game) (n : ℕ) (zone : List ℕ) (next upto : ℕ) (zone' layers' avoids' ranks' waits' turned' : List ℕ) (next' : ℕ) →

@@ -1,7 +1,7 @@
 -- The middle loop: ranks make progress, and what is found last is the least set.
 --   ranked_none     before the first round
 --   grounded        each state reached has the base fact
---   ranked-enter    entering a set that the inner step keeps
+--   ranked_enter    entering a set that the inner step keeps
 --   settled_least   when all is settled, the set is the least
 use Rattle.std.proofs.Common.{◌≡◌, ℕ, ◌+◌, ◌<◌, ◌≤◌, Bool, true, false, ◌⊎◌, List, sym, refl, ap, ◌∙◌, subst, inl, inr, ⊎_elim, arith}
 use borrow.Author.Tests.{clash, both_ways}
@@ -23,13 +23,13 @@ base_mono g Z j Y V s le b = ⊎_elim (λ r. inl r) (λ c. inr (cpre_mono g (In 
 
 pub ranked_none : (g : Game) (n : ℕ) (Z : Set) (j : ℕ) (Y : Set) (R W : ℕ → ℕ) → ((s : ℕ) → Y s ≡ false) →
     ((s : ℕ) → (R s ≡ 0) × (W s ≡ 0)) → Ranked g n Z j Y R W 0
-ranked_none g n Z j Y R W none zero-all =
+ranked_none g n Z j Y R W none zero_all =
     record {
       inside = λ s y. absurd (both_ways (Y s) (none s) y);
       fewest = λ V closed s y. absurd (both_ways (Y s) (none s) y);
       below = λ s y. absurd (both_ways (Y s) (none s) y);
       fine = λ s y. absurd (both_ways (Y s) (none s) y);
-      unused = λ s y. zero-all s;
+      unused = λ s y. zero_all s;
       left = omega arith;
     }
 
@@ -58,20 +58,20 @@ module _ (g : Game) (n : ℕ) (Z : Set) (j : ℕ) (Y₀ Y : Set) (R W : ℕ → 
   same : (s : ℕ) → Y s ≡ true → (R' s ≡ R s) × (W' s ≡ W s)
   same s y = ⊎_elim (λ c. absurd (both_ways (Y s) c.0.1 y)) (λ c. (c.2, c.3)) (cases s)
 
-  falls-same : (s t : ℕ) → Y s ≡ true → Y t ≡ true → Falls g R W s t → Falls g R' W' s t
-  falls-same s t ys yt f =
+  falls_same : (s t : ℕ) → Y s ≡ true → Y t ≡ true → Falls g R W s t → Falls g R' W' s t
+  falls_same s t ys yt f =
       subst (λ (k : ℕ). (R' t < k) ⊎ ((R' t ≡ k) × (W' t ≡ W' s) × (W' s < g.promises) × (g.promise (W' s) s ≡ false))) (sym (same s ys).0)
       (subst (λ (k : ℕ). (k < R s) ⊎ ((k ≡ R s) × (W' t ≡ W' s) × (W' s < g.promises) × (g.promise (W' s) s ≡ false))) (sym (same t yt).0)
       (subst (λ (k : ℕ). (R t < R s) ⊎ ((R t ≡ R s) × (W' t ≡ k) × (k < g.promises) × (g.promise k s ≡ false))) (sym (same s ys).1)
       (subst (λ (k : ℕ). (R t < R s) ⊎ ((R t ≡ R s) × (k ≡ W s) × (W s < g.promises) × (g.promise (W s) s ≡ false))) (sym (same t yt).1) f)))
 
   -- an entered state goes on to a state reached before, whose rank is lower
-  to-before : (s t : ℕ) → R' s ≡ next → Y t ≡ true → Fine g Z j Y' R' W' s t
-  to-before s t rs y = (inv.inside t y, λ h. (grows t y, inl (omega (arith, rs, (same t y).0, inv.below t y))))
+  to_before : (s t : ℕ) → R' s ≡ next → Y t ≡ true → Fine g Z j Y' R' W' s t
+  to_before s t rs y = (inv.inside t y, λ h. (grows t y, inl (omega (arith, rs, (same t y).0, inv.below t y))))
 
   -- or waits within the set that is entered
-  to-waiting : (s t : ℕ) → R' s ≡ next → W' s ≡ i → i < g.promises → g.promise i s ≡ false → X t ≡ true → Fine g Z j Y' R' W' s t
-  to-waiting s t rs ws ip p x =
+  to_waiting : (s t : ℕ) → R' s ≡ next → W' s ≡ i → i < g.promises → g.promise i s ≡ false → X t ≡ true → Fine g Z j Y' R' W' s t
+  to_waiting s t rs ws ip p x =
       ⊎_elim
       (λ c. (
         (kept t x).0,
@@ -85,26 +85,26 @@ module _ (g : Game) (n : ℕ) (Z : Set) (j : ℕ) (Y₀ Y : Set) (R W : ℕ → 
           ),
         ),
       ))
-      (λ c. to-before s t rs (c.0 x)) (cases t)
+      (λ c. to_before s t rs (c.0 x)) (cases t)
 
   entered : (s : ℕ) → R' s ≡ next → W' s ≡ i → Inner g Z (Base g Z j Y₀) i X s → Cpre g (Fine g Z j Y' R' W' s) s
   entered s rs ws (z, inl (inl reached)) =
       cpre_mono g (In Z) (Fine g Z j Y' R' W' s) s (λ t h. (h, λ f. absurd (both_ways (g.goal j s) f reached.0))) reached.1
   entered s rs ws (z, inl (inr forced)) =
-      cpre_mono g (In Y₀) (Fine g Z j Y' R' W' s) s (λ t h. to-before s t rs (began t h)) forced
+      cpre_mono g (In Y₀) (Fine g Z j Y' R' W' s) s (λ t h. to_before s t rs (began t h)) forced
   entered s rs ws (z, inr w) =
-      cpre_mono g (In X) (Fine g Z j Y' R' W' s) s (λ t h. to-waiting s t rs ws w.0 w.1 h) w.2
+      cpre_mono g (In X) (Fine g Z j Y' R' W' s) s (λ t h. to_waiting s t rs ws w.0 w.1 h) w.2
 
-  fine-now : (s : ℕ) → Y' s ≡ true → (Y s ≡ true) ⊎ (Y s ≡ false) → Cpre g (Fine g Z j Y' R' W' s) s
-  fine-now s y' (inl y) =
+  fine_now : (s : ℕ) → Y' s ≡ true → (Y s ≡ true) ⊎ (Y s ≡ false) → Cpre g (Fine g Z j Y' R' W' s) s
+  fine_now s y' (inl y) =
       cpre_mono g (Fine g Z j Y R W s) (Fine g Z j Y' R' W' s) s
-      (λ t f. (f.0, λ h. (grows t (f.1 h).0, falls-same s t y (f.1 h).0 (f.1 h).1))) (inv.fine s y)
-  fine-now s y' (inr o) =
+      (λ t f. (f.0, λ h. (grows t (f.1 h).0, falls_same s t y (f.1 h).0 (f.1 h).1))) (inv.fine s y)
+  fine_now s y' (inr o) =
       ⊎_elim (λ c. entered s c.2 c.3 (kept s c.0.0)) (λ c. absurd (both_ways (Y s) o (sym c.1 ∙ y'))) (cases s)
 
-  pub ranked-enter : (next' : ℕ) → next ≤ next' → next' + count n Y ≤ next + count n Y' →
+  pub ranked_enter : (next' : ℕ) → next ≤ next' → next' + count n Y ≤ next + count n Y' →
       ((s : ℕ) → New X Y s → next < next') → Ranked g n Z j Y' R' W' next'
-  ranked-enter next' up few some =
+  ranked_enter next' up few some =
       record {
         inside = λ s y. ⊎_elim (λ c. (kept s c.0.0).0) (λ c. inv.inside s (sym c.1 ∙ y)) (cases s);
         fewest = λ V closed s y.
@@ -120,7 +120,7 @@ module _ (g : Game) (n : ℕ) (Z : Set) (j : ℕ) (Y₀ Y : Set) (R W : ℕ → 
             (λ c. inv.fewest V closed s (sym c.1 ∙ y)) (cases s);
         below = λ s y.
             ⊎_elim (λ c. omega (arith, c.2, some s c.0)) (λ c. omega (arith, c.2, inv.below s (sym c.1 ∙ y))) (cases s);
-        fine = λ s y. fine-now s y (cases_Bool (Y s));
+        fine = λ s y. fine_now s y (cases_Bool (Y s));
         unused = λ s y.
             ⊎_elim (λ c. absurd (both_ways (Y' s) y c.1))
             (λ c. let u = inv.unused s (sym c.1 ∙ y) in (c.2 ∙ u.0, c.3 ∙ u.1)) (cases s);

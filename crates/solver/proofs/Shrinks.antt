@@ -1,5 +1,5 @@
 -- One turn of the inner loop, state by state.
---   shrunk-miss, -hit          a state stays; a state is taken out
+--   shrunk_miss, -hit          a state stays; a state is taken out
 --   along3                        a fact of three values, at values that are equal to them
 use Rattle.std.proofs.Common.{◌≡◌, ℕ, ◌+◌, ◌<◌, ◌≤◌, Bool, true, false, not, List, length, set, MatchBool, sym, refl, ap, ◌∙◌, subst, arith}
 use Rattle.game.specs.Game.{Game}
@@ -39,8 +39,8 @@ shrunk_none g F i n before turns turn stay e =
 
 module _ (g : Game) (F : Set) (i n : ℕ) (before turns₀ : List ℕ) (turn s : ℕ) (stay turns : List ℕ) (removed : ℕ)
     (inv : Shrunk g F i n before turns₀ turn s stay turns removed) where
-  pub shrunk-miss : Remains g F i (member before) s → Shrunk g F i n before turns₀ turn (s + 1) stay turns removed
-  shrunk-miss r =
+  pub shrunk_miss : Remains g F i (member before) s → Shrunk g F i n before turns₀ turn (s + 1) stay turns removed
+  shrunk_miss r =
       record {
         marked = marked_miss _ _ s false _ _ turn _ _ turn _ _ inv.marked r;
         counted = inv.counted;
@@ -48,9 +48,9 @@ module _ (g : Game) (F : Set) (i n : ℕ) (before turns₀ : List ℕ) (turn s :
         few = omega (arith, inv.few);
       }
 
-  pub shrunk-hit : (stay' : List ℕ) → s < n → s < length turns → Leaves g F i (member before) s → Put stay s false stay' →
+  pub shrunk_hit : (stay' : List ℕ) → s < n → s < length turns → Leaves g F i (member before) s → Put stay s false stay' →
       Shrunk g F i n before turns₀ turn (s + 1) stay' (set turns s turn) (removed + 1)
-  shrunk-hit stay' l lt leave p =
+  shrunk_hit stay' l lt leave p =
       let cX = put_changed stay stay' s false p in
       let cT = set_changed turns s turn lt in
       let out : count n (member stay') + 1 ≡ count n (member stay) =

@@ -22,7 +22,7 @@ forced : (g : Game) (P : ℕ → Type 0) (s e : ℕ) → Cpre g P s → g.moves 
 unfolding Cpre
 forced g P s e c h = c e h
 
-module _ (g : Game) (n m : ℕ) (bound : (s e a : ℕ) → g.after s e a < n) (some-move : (s e : ℕ) → g.moves s e ≡ true → e < m)
+module _ (g : Game) (n m : ℕ) (bound : (s e a : ℕ) → g.after s e a < n) (some_move : (s e : ℕ) → g.moves s e ≡ true → e < m)
     (known answers ranks waits layers avoids turned₀ : List ℕ) (fits : room known ≡ n)
     (so : Solved g n known layers avoids ranks waits turned₀)
     (an : Answered g n m (member known) (row ranks n) (row waits n) answers g.goals) where
@@ -32,14 +32,14 @@ module _ (g : Game) (n m : ℕ) (bound : (s e a : ℕ) → g.after s e a < n) (s
   good : (j s e : ℕ) → j < g.goals → member known s ≡ true → g.moves s e ≡ true →
       (g.allowed s e (row answers (n * m) j (s * m + e)) ≡ true)
       × Fine g (member known) j (member known) (row ranks n j) (row waits n j) s (g.after s e (row answers (n * m) j (s * m + e)))
-  good j s e lj z h = (an j s e lj (below s z) (some-move s e h)).good z h (forced g _ s e ((so.won j lj).fine s z) h)
+  good j s e lj z h = (an j s e lj (below s z) (some_move s e h)).good z h (forced g _ s e ((so.won j lj).fine s z) h)
 
   pub plan_holds : PlanHolds g (table n m known answers ranks waits)
   plan_holds =
       record {
         answers = λ j s e lj z h. (good j s e lj z h).0;
         goes_on = λ j s e lj z h. (good j s e lj z h).1.0;
-        progress = λ j s e lj z h no-goal. ((good j s e lj z h).1.1 no-goal).1;
+        progress = λ j s e lj z h no_goal. ((good j s e lj z h).1.1 no_goal).1;
       }
 
   module _ (turned moves : List ℕ) (mo : Moved g n (member known) (cell layers) (cell avoids) turned₀ (turns g.promises) turned moves) where

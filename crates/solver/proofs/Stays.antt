@@ -1,8 +1,8 @@
 -- The inner loop: the greatest set of states that reach the base or wait within it, with the turns at which the others left.
 --   inner_mono                     the inner step is monotone in base and set
 --   Staying                        what holds before each turn
---   staying-first, staying-turn    it holds at the start; a turn keeps it
---   staying-last                   when a turn takes nothing out, the set is the greatest
+--   staying_first, staying_turn    it holds at the start; a turn keeps it
+--   staying_last                   when a turn takes nothing out, the set is the greatest
 use Rattle.std.proofs.Common.{◌≡◌, ℕ, ◌+◌, ◌<◌, ◌≤◌, Bool, true, false, ◌⊎◌, sym, refl, ap, ◌∙◌, subst, inl, inr, ⊎_elim, arith}
 use borrow.Author.Tests.{clash, both_ways}
 use Rattle.std.proofs.lemmas.Bool.{cases_Bool, cases_lt}
@@ -41,8 +41,8 @@ module _ (g : Game) (n : ℕ) (Z F : Set) (i : ℕ) where
     pub removed : (s : ℕ) → Z s ≡ true → X s ≡ false → Waiting g i (Later Z X T (T s)) s → ⊥
     pub left : turn + count n X ≤ n
 
-  pub staying-first : (T : ℕ → ℕ) → Staying Z T 0
-  staying-first T =
+  pub staying_first : (T : ℕ → ℕ) → Staying Z T 0
+  staying_first T =
       record {
         inside = λ s h. h;
         base = λ s z f. z;
@@ -70,13 +70,13 @@ module _ (g : Game) (n : ℕ) (Z F : Set) (i : ℕ) where
     stays s x ok = ⊎_elim (λ y. absurd (y.0.1 ok)) (λ y. y.0 ∙ x) (cases s)
 
     -- what was not yet out at an earlier turn, as the arrays now say it, was in X before this one
-    was-later : (r t : ℕ) → Later Z X' T' r t → Later Z X T r t
-    was-later r t (z, inl x) = (z, inl (shrinks t x))
-    was-later r t (z, inr le) =
+    was_later : (r t : ℕ) → Later Z X' T' r t → Later Z X T r t
+    was_later r t (z, inl x) = (z, inl (shrinks t x))
+    was_later r t (z, inr le) =
         ⊎_elim (λ y. (z, inl y.0.0)) (λ y. (z, inr (omega (arith, y.1)))) (cases t)
 
-    was-in : (t : ℕ) → Later Z X' T' turn t → In X t
-    was-in t l = go (was-later turn t l) (cases_Bool (X t))
+    was_in : (t : ℕ) → Later Z X' T' turn t → In X t
+    was_in t l = go (was_later turn t l) (cases_Bool (X t))
       where
         go : Later Z X T turn t → (X t ≡ true) ⊎ (X t ≡ false) → In X t
         go p (inl x) = x
@@ -90,7 +90,7 @@ module _ (g : Game) (n : ℕ) (Z F : Set) (i : ℕ) where
         (λ y. (
           omega (arith, y.2),
           λ w. y.0.1 (inr (waiting_mono g i (Later Z X' T' (T' s)) (In X) s
-              (λ t l. was-in t (subst (λ (r : ℕ). Later Z X' T' r t) y.2 l)) w)),
+              (λ t l. was_in t (subst (λ (r : ℕ). Later Z X' T' r t) y.2 l)) w)),
         ))
         (λ y. absurd (both_ways (X' s) o (y.0 ∙ x))) (cases s)
     out_at s z o (inr x) =
@@ -98,12 +98,12 @@ module _ (g : Game) (n : ℕ) (Z F : Set) (i : ℕ) where
         (λ y. (
           omega (arith, y.1, inv.earlier s z x),
           λ w. inv.removed s z x (waiting_mono g i (Later Z X' T' (T' s)) (Later Z X T (T s)) s
-              (λ t l. was-later (T s) t (subst (λ (r : ℕ). Later Z X' T' r t) y.1 l)) w),
+              (λ t l. was_later (T s) t (subst (λ (r : ℕ). Later Z X' T' r t) y.1 l)) w),
         ))
         (cases s)
 
-    pub staying-turn : (k : ℕ) → count n X' + k ≡ count n X → 0 < k → Staying X' T' (turn + 1)
-    staying-turn k counted some =
+    pub staying_turn : (k : ℕ) → count n X' + k ≡ count n X → 0 < k → Staying X' T' (turn + 1)
+    staying_turn k counted some =
         record {
           inside = λ s h. inv.inside s (shrinks s h);
           base = λ s z f. stays s (inv.base s z f) (inl f);
@@ -115,23 +115,23 @@ module _ (g : Game) (n : ℕ) (Z F : Set) (i : ℕ) where
           left = omega (arith, counted, some, inv.left);
         }
 
-    pub staying-last : ((s : ℕ) → X' s ≡ X s) → Greatest (Inner g Z (In F) i) X'
-    staying-last same =
+    pub staying_last : ((s : ℕ) → X' s ≡ X s) → Greatest (Inner g Z (In F) i) X'
+    staying_last same =
         record {
           kept = λ s h.
               let x : X s ≡ true = sym (same s) ∙ h in (
                 inv.inside s x,
-                inner-in s (⊎_elim (λ y. absurd (both_ways (X' s) y.1 h)) (λ y. y.0 x) (m.each s (within s x))),
+                inner_in s (⊎_elim (λ y. absurd (both_ways (X' s) y.1 h)) (λ y. y.0 x) (m.each s (within s x))),
               );
           most = λ W kept s w. same s ∙ inv.most W kept s w;
         }
       where
-        inner-in : (s : ℕ) → (F s ≡ true) ⊎ Waiting g i (In X) s → (F s ≡ true) ⊎ Waiting g i (In X') s
-        inner-in s (inl f) = inl f
-        inner-in s (inr w) = inr (waiting_mono g i (In X) (In X') s (λ t x. same t ∙ x) w)
+        inner_in : (s : ℕ) → (F s ≡ true) ⊎ Waiting g i (In X) s → (F s ≡ true) ⊎ Waiting g i (In X') s
+        inner_in s (inl f) = inl f
+        inner_in s (inr w) = inr (waiting_mono g i (In X) (In X') s (λ t x. same t ∙ x) w)
 
-    pub removed-last : ((s : ℕ) → X' s ≡ X s) → (s : ℕ) → Z s ≡ true → X' s ≡ false → Waiting g i (Later Z X' T' (T' s)) s → ⊥
-    removed-last same s z o = (out_at s z o (cases_Bool (X s))).1
+    pub removed_last : ((s : ℕ) → X' s ≡ X s) → (s : ℕ) → Z s ≡ true → X' s ≡ false → Waiting g i (Later Z X' T' (T' s)) s → ⊥
+    removed_last same s z o = (out_at s z o (cases_Bool (X s))).1
 
-    pub outside-last : (s : ℕ) → Z s ≡ false → T' s ≡ T s
-    outside-last s z = ⊎_elim (λ y. absurd (both_ways (Z s) z (inv.inside s y.0.0))) (λ y. y.1) (cases s)
+    pub outside_last : (s : ℕ) → Z s ≡ false → T' s ≡ T s
+    outside_last s z = ⊎_elim (λ y. absurd (both_ways (Z s) z (inv.inside s y.0.0))) (λ y. y.1) (cases s)

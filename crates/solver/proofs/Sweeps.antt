@@ -61,8 +61,8 @@ marked_hit Yes No k b X X' X'' u f f' f'' w h h' h'' m hit cX cf ch =
           (cX.1 s ne ∙ r.0, cf.1 s ne ∙ r.1, ch.1 s ne ∙ r.2);
     }
   where
-    at-k : Yes k × (X'' k ≡ b) × (f'' k ≡ u) × (h'' k ≡ w)
-    at-k = (hit, cX.0, cf.0, ch.0)
+    at_k : Yes k × (X'' k ≡ b) × (f'' k ≡ u) × (h'' k ≡ w)
+    at_k = (hit, cX.0, cf.0, ch.0)
 
     before : (s : ℕ) → (s ≡ k → ⊥) →
         (Yes s × (X' s ≡ b) × (f' s ≡ u) × (h' s ≡ w)) ⊎ (No s × (X' s ≡ X s) × (f' s ≡ f s) × (h' s ≡ h s)) →
@@ -73,5 +73,5 @@ marked_hit Yes No k b X X' X'' u f f' f'' w h h' h'' m hit cX cf ch =
     go : (s : ℕ) → (s ≡ k) ⊎ (s < k) →
         (Yes s × (X'' s ≡ b) × (f'' s ≡ u) × (h'' s ≡ w)) ⊎ (No s × (X'' s ≡ X s) × (f'' s ≡ f s) × (h'' s ≡ h s))
     go s (inl e) =
-        inl (subst (λ (t : ℕ). Yes t × (X'' t ≡ b) × (f'' t ≡ u) × (h'' t ≡ w)) (sym e) at-k)
+        inl (subst (λ (t : ℕ). Yes t × (X'' t ≡ b) × (f'' t ≡ u) × (h'' t ≡ w)) (sym e) at_k)
     go s (inr lt) = before s (λ e. omega arith) (m.each s lt)

@@ -1,7 +1,7 @@
 // The moves of the counterstrategy, chosen after the loops: for each promise gone for and each lost state the first
 // legal move after which every allowed answer leads to a lost state and descends.
 ghost use Rattle.std.specs.Prelude.{◌≡◌, ◌+◌, ◌*◌, ◌<◌, ◌≤◌, length, Decides, MatchBool};
-ghost use Rattle.game.specs.Counterstrategy.{kept, turns as turn-rows};
+ghost use Rattle.game.specs.Counterstrategy.{kept, turns as turn_rows};
 ghost use Rattle.sets.specs.Arena.{arena_game};
 ghost use Rattle.sets.specs.Member.{member, room};
 ghost use Rattle.sets.specs.Step.{Forced};
@@ -13,7 +13,7 @@ use sets::set::has;
 
 // How many promises are gone for in turn: without promises there is one, which holds nowhere.
 pub fn row_count(arena: Arena<'_>) -> usize
-    ensures { result ≡ turn-rows arena.entry.promise_count }
+    ensures { result ≡ turn_rows arena.entry.promise_count }
 {
     if arena.promise_count == 0 {
         1
@@ -199,9 +199,9 @@ pub fn move_all(
     requires zone { room zone.now ≡ arena.states }
     requires layers { length layers.now ≡ arena.states }
     requires avoids { length avoids.now ≡ arena.states }
-    requires turns { length turns.old ≡ turn-rows arena.promise_count * arena.states }
-    requires moves { length moves.old ≡ turn-rows arena.promise_count * arena.states }
-    ensures { Moved (arena_game arena.entry) arena.entry.states (member zone.now) (cell layers.now) (cell avoids.now) turns.old (turn-rows arena.entry.promise_count) turns.new moves.new }
+    requires turns { length turns.old ≡ turn_rows arena.promise_count * arena.states }
+    requires moves { length moves.old ≡ turn_rows arena.promise_count * arena.states }
+    ensures { Moved (arena_game arena.entry) arena.entry.states (member zone.now) (cell layers.now) (cell avoids.now) turns.old (turn_rows arena.entry.promise_count) turns.new moves.new }
 {
     for i in 0..row_count(arena) {
         let first = i * arena.states;

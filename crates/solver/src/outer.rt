@@ -1,7 +1,7 @@
 // The outer loop: the greatest set of states from which every goal can be reached again and again, the winning region.
 // Layers number what each goal of each round drops.
 ghost use Rattle.std.specs.Prelude.{◌≡◌, ◌+◌, ◌*◌, ◌<◌, ◌≤◌, length};
-ghost use Rattle.game.specs.Counterstrategy.{turns as turn-rows};
+ghost use Rattle.game.specs.Counterstrategy.{turns as turn_rows};
 ghost use Rattle.sets.specs.Arena.{arena_game};
 ghost use Rattle.sets.specs.Count.{count};
 ghost use Rattle.sets.specs.Member.{member, room};

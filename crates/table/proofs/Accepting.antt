@@ -20,18 +20,18 @@ use Rattle.table.specs.Sound.{row_sound, state_sound, table_verdict, Accepts, Wi
 
 module _ (c : Content) (bs : List ℕ) where
   -- the rows of all states are sound exactly if they are in range and the plan's test is true
-  rows-of-state : (s : ℕ) → state_sound c (sheet_for c bs) s ≡ true → (j : ℕ) → j < length c.goals → row_sound c (sheet_for c bs) j s ≡ true
-  rows-of-state s = (each (λ j. row_sound c (sheet_for c bs) j s) (length c.goals)).0
+  rows_of_state : (s : ℕ) → state_sound c (sheet_for c bs) s ≡ true → (j : ℕ) → j < length c.goals → row_sound c (sheet_for c bs) j s ≡ true
+  rows_of_state s = (each (λ j. row_sound c (sheet_for c bs) j s) (length c.goals)).0
 
-  test-from : ((s : ℕ) → s < 2 ^ c.state → state_sound c (sheet_for c bs) s ≡ true) →
+  test_from : ((s : ℕ) → s < 2 ^ c.state → state_sound c (sheet_for c bs) s ≡ true) →
       plan_test (sizes_of c) (game_of c) (plan_of (sheet_for c bs)) ≡ true
-  test-from sound =
+  test_from sound =
       (each (plan_state (sizes_of c) (game_of c) (plan_of (sheet_for c bs))) (2 ^ c.state)).1
       (λ s h. (each (λ j. plan_row (sizes_of c) (game_of c) (plan_of (sheet_for c bs)) j s) (length c.goals)).1
-      (λ j k. (and_parts _ _ (rows-of-state s (sound s h) j k)).1))
+      (λ j k. (and_parts _ _ (rows_of_state s (sound s h) j k)).1))
 
-  rows-from : Accepts c bs → (s : ℕ) → s < 2 ^ c.state → state_sound c (sheet_for c bs) s ≡ true
-  rows-from a s h =
+  rows_from : Accepts c bs → (s : ℕ) → s < 2 ^ c.state → state_sound c (sheet_for c bs) s ≡ true
+  rows_from a s h =
       (each (λ j. row_sound c (sheet_for c bs) j s) (length c.goals)).1
       (λ j k. and_from _ _ (a.in_range j s k h)
       ((each (λ i. plan_row (sizes_of c) (game_of c) (plan_of (sheet_for c bs)) i s) (length c.goals)).0
@@ -47,25 +47,25 @@ module _ (c : Content) (bs : List ℕ) where
   abbrev rest : Result Accepted Refusal
   rest = verdict_of c (state_sound c (sheet_for c bs)) (λ s. (plan_of (sheet_for c bs)).known 0 s) TableFault
 
-  decides-rest : Decides (is_ok rest) Sound
-  decides-rest = decides_verdict c (state_sound c (sheet_for c bs)) (λ s. (plan_of (sheet_for c bs)).known 0 s) TableFault
+  decides_rest : Decides (is_ok rest) Sound
+  decides_rest = decides_verdict c (state_sound c (sheet_for c bs)) (λ s. (plan_of (sheet_for c bs)).known 0 s) TableFault
 
   to : missized (length_of (grid_for c)) bs ≡ None → Sound → Accepts c bs
   to p v =
       record {
         whole = (sized (length_of (grid_for c)) bs).0 (ap is_none p);
-        in_range = λ j s k h. (and_parts _ _ (rows-of-state s (v.0 s h) j k)).0;
-        holds = (plan_tested (sizes_of c) (game_of c) (plan_of (sheet_for c bs)) (rules_within c)).0 (test-from v.0);
+        in_range = λ j s k h. (and_parts _ _ (rows_of_state s (v.0 s h) j k)).0;
+        holds = (plan_tested (sizes_of c) (game_of c) (plan_of (sheet_for c bs)) (rules_within c)).0 (test_from v.0);
         starts = v.1;
       }
 
-  accepts-by : (o : Option Refusal) → missized (length_of (grid_for c)) bs ≡ o → Decides (is_ok (unless o rest)) (Accepts c bs)
-  accepts-by (Some x) p =
+  accepts_by : (o : Option Refusal) → missized (length_of (grid_for c)) bs ≡ o → Decides (is_ok (unless o rest)) (Accepts c bs)
+  accepts_by (Some x) p =
       (λ e. absurd (false≢true e), λ a. absurd (false≢true (ap is_none (sym p) ∙ (sized (length_of (grid_for c)) bs).1 a.whole)))
-  accepts-by None p = (λ e. to p (decides-rest.0 e), λ a. decides-rest.1 (rows-from a, a.starts))
+  accepts_by None p = (λ e. to p (decides_rest.0 e), λ a. decides_rest.1 (rows_from a, a.starts))
 
   pub accepts : Decides (is_ok (table_verdict c bs)) (Accepts c bs)
-  accepts = accepts-by (missized (length_of (grid_for c)) bs) refl
+  accepts = accepts_by (missized (length_of (grid_for c)) bs) refl
 
   -- a start that is known for goal 0 shows that there is a goal
   pub wins : Accepts c bs → Wins c bs

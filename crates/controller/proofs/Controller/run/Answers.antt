@@ -1,6 +1,6 @@
 use Rattle.std.proofs.Common.{◌<◌, length, Some, None, vec_items, sym, refl, ◌∙◌, arith}
 use Rattle.controller.specs.Runs.{Walks}
-use Rattle.controller.proofs.Running.{run_more, run-refused, run-ended}
+use Rattle.controller.proofs.Running.{run_more, run_refused, run_ended}
 use Rattle.controller.proofs.Controller.run.Goals as goal
 
 pub loop-moved-init : goal.loop-moved-init
@@ -16,8 +16,8 @@ returns-in-Err c =
     let l : n < length c.args.moves.now = omega arith in
     let answers = c.loop-moved.answers in
     let step = c.in-Err.ensures in
-    let stop = run-refused c.args.self.now c.args.moves.now c.loop-moved.self c.step.new.self (vec_items answers) n c.in-Err.refusal l inv.0 inv.1 step.steps in
-    let ended = run-ended c.args.self.now c.args.moves.now c.step.new.self (record { answers = answers; refusal = Some c.in-Err.refusal }) n (sym answers.ok.0 ∙ inv.2) stop.0 stop.1 in
+    let stop = run_refused c.args.self.now c.args.moves.now c.loop-moved.self c.step.new.self (vec_items answers) n c.in-Err.refusal l inv.0 inv.1 step.steps in
+    let ended = run_ended c.args.self.now c.args.moves.now c.step.new.self (record { answers = answers; refusal = Some c.in-Err.refusal }) n (sym answers.ok.0 ∙ inv.2) stop.0 stop.1 in
     record {
       same = (step.same.0 ∙ inv.0.0, step.same.1 ∙ inv.0.1);
       runs = ended.runs;
@@ -43,5 +43,5 @@ returns c =
     let inv = c.loop-moved.invariant in
     let n = c.loop-moved.moved-index in
     let answers = c.loop-moved.answers in
-    let ended = run-ended c.args.self.now c.args.moves.now c.loop-moved.self (record { answers = answers; refusal = None }) n (sym answers.ok.0 ∙ inv.2) inv.1 (omega arith) in
+    let ended = run_ended c.args.self.now c.args.moves.now c.loop-moved.self (record { answers = answers; refusal = None }) n (sym answers.ok.0 ∙ inv.2) inv.1 (omega arith) in
     record { same = inv.0; runs = ended.runs; plays = ended.plays; safe = ended.safe }

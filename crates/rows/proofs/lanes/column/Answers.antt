@@ -19,5 +19,5 @@ loop-l-preserved c =
 
 pub returns : goal.returns
 returns c = λ l h.
-    let zero-at : c.loop-l.l + l ≡ l = omega arith in
-    c.loop-l.invariant.lanes l (omega arith) ∙ ap (λ m. bit (get_or c.args.row.bytes.now (c.args.from + m) 0) c.args.i) zero-at
+    let zero_at : c.loop-l.l + l ≡ l = omega arith in
+    c.loop-l.invariant.lanes l (omega arith) ∙ ap (λ m. bit (get_or c.args.row.bytes.now (c.args.from + m) 0) c.args.i) zero_at

@@ -2,7 +2,7 @@ use Rattle.std.proofs.Common.{◌≡◌, ℕ, ◌+◌, ◌*◌, ◌≤◌, lengt
 use Rattle.sets.specs.Arena.{arena_game}
 use Rattle.sets.proofs.Arenas.{after_below}
 use Rattle.solver.specs.Reasons.{row}
-use Rattle.solver.proofs.Answering.{answered-more}
+use Rattle.solver.proofs.Answering.{answered_more}
 use Rattle.solver.proofs.Rows.{part_length, row_fits, row_part}
 use Rattle.solver.proofs.answers.answer_all.Goals as goal
 
@@ -23,7 +23,7 @@ loop-j-preserved c =
     let a = c.args.arena in
     let fits : c.loop-j.j * (a.states * a.moves) + a.states * a.moves ≤ length c.loop-j.answers =
     row_fits _ _ a.goal_count _ c.loop-j-test.true (omega (arith, c.requires.answers)) in
-    answered-more (arena_game a) a.states a.moves (λ s e k. after_below a s e k) _ (row c.args.ranks.now a.states) (row c.args.waits.now a.states)
+    answered_more (arena_game a) a.states a.moves (λ s e k. after_below a s e k) _ (row c.args.ranks.now a.states) (row c.args.waits.now a.states)
     c.loop-j.j c.loop-j.answers _ _ _
     (λ s l. sym (row_part c.args.ranks.now a.states c.loop-j.j s _ (omega arith) l))
     (λ s l. sym (row_part c.args.waits.now a.states c.loop-j.j s _ (omega arith) l))

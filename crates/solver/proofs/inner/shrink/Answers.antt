@@ -5,7 +5,7 @@ use Rattle.sets.specs.Member.{member}
 use Rattle.sets.specs.Count.{count}
 use Rattle.sets.proofs.Counts.{count_some}
 use Rattle.solver.specs.Stay.{Shrunk}
-use Rattle.solver.proofs.Shrinks.{shrunk_none, shrunk-miss, shrunk-hit, along2, along3}
+use Rattle.solver.proofs.Shrinks.{shrunk_none, shrunk_miss, shrunk_hit, along2, along3}
 use Rattle.solver.proofs.inner.shrink.Goals as goal
 use Rattle.solver.proofs.inner.shrink.Goals.{then-leaves, else-leaves}
 
@@ -20,10 +20,10 @@ loop-s-preserved c =
     elim c.if-leaves.branch [
       | then-leaves w ↦
           along3 (Shrunk _ _ _ _ _ _ _ _) w.stay-is w.turns-is w.removed-is
-          (shrunk-hit _ _ _ _ _ _ _ _ _ _ _ c.loop-s.invariant _ (omega arith) (omega arith) w.if-leaves.ensures w.put.ensures)
+          (shrunk_hit _ _ _ _ _ _ _ _ _ _ _ c.loop-s.invariant _ (omega arith) (omega arith) w.if-leaves.ensures w.put.ensures)
       | else-leaves w ↦
           along3 (Shrunk _ _ _ _ _ _ _ _) w.stay-is w.turns-is w.removed-is
-          (shrunk-miss _ _ _ _ _ _ _ _ _ _ _ c.loop-s.invariant w.if-leaves.ensures)
+          (shrunk_miss _ _ _ _ _ _ _ _ _ _ _ c.loop-s.invariant w.if-leaves.ensures)
     ]
 
 pub returns : goal.returns

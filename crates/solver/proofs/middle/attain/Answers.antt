@@ -5,7 +5,7 @@ use Rattle.sets.specs.Member.{member, room}
 use Rattle.sets.proofs.Arenas.{promises_is}
 use Rattle.sets.proofs.Counts.{count_most}
 use Rattle.sets.proofs.Members.{member_below}
-use Rattle.solver.proofs.Attains.{base-is, on-base, Attaining, attaining-more, attained}
+use Rattle.solver.proofs.Attains.{base_is, on_base, Attaining, attaining_more, attained}
 use Rattle.solver.proofs.Ranks.{ranked_none}
 use Rattle.solver.proofs.Rows.{cell_zeros, filled_none}
 use Rattle.solver.proofs.middle.attain.Goals as goal
@@ -32,7 +32,7 @@ find_base-requires c =
       reach = omega arith;
       base = omega arith;
       grounded =
-          on-base _ _ _ _ _ (under c.args.zone.now _ (omega arith)) (under c.find_hits.new.hits _ (omega arith))
+          on_base _ _ _ _ _ (under c.args.zone.now _ (omega arith)) (under c.find_hits.new.hits _ (omega arith))
           c.find_hits.ensures _ _ _ _ c.middle.invariant.ranked;
     }
 
@@ -48,13 +48,13 @@ round-rank-requires c =
       waits = omega arith;
       turns = omega (arith, c.requires.turns);
       is_base =
-          base-is _ _ _ _ _ (under c.args.zone.now _ (omega arith)) (under c.find_hits.new.hits _ (omega arith))
+          base_is _ _ _ _ _ (under c.args.zone.now _ (omega arith)) (under c.find_hits.new.hits _ (omega arith))
           c.find_hits.ensures _ _ (under c.find_base.new.base _ (omega arith)) c.find_base.ensures;
       ranked = c.middle.invariant.ranked;
     }
 
 pub middle-preserved : goal.middle-preserved
-middle-preserved c = attaining-more _ _ _ _ _ _ _ _ _ _ c.middle.invariant _ (sym (promises_is c.args.arena)) _ _ _ _ _ c.round-rank.ensures
+middle-preserved c = attaining_more _ _ _ _ _ _ _ _ _ _ c.middle.invariant _ (sym (promises_is c.args.arena)) _ _ _ _ _ c.round-rank.ensures
 
 pub middle-smaller : goal.middle-smaller
 middle-smaller c =

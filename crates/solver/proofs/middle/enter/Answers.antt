@@ -4,7 +4,7 @@ use Rattle.sets.specs.Count.{count}
 use Rattle.sets.specs.Member.{member}
 use Rattle.sets.proofs.Counts.{count_most, count_room}
 use Rattle.solver.specs.Reach.{Entered}
-use Rattle.solver.proofs.Enters.{entered_none, entered-miss, entered-hit}
+use Rattle.solver.proofs.Enters.{entered_none, entered_miss, entered_hit}
 use Rattle.solver.proofs.Shrinks.{along4}
 use Rattle.solver.proofs.middle.enter.Goals as goal
 use Rattle.solver.proofs.middle.enter.Goals.{then-is_new, else-is_new}
@@ -26,10 +26,10 @@ loop-s-preserved c =
     elim c.if-is_new.branch [
       | then-is_new w ↦
           along4 (Entered _ _ _ _ _ _ _ _) w.reach-is w.ranks-is w.waits-is w.next-is
-          (entered-hit _ _ _ _ _ _ _ _ _ _ _ _ c.loop-s.invariant _ (omega arith) (omega arith) (omega arith) w.if-is_new.ensures w.put.ensures)
+          (entered_hit _ _ _ _ _ _ _ _ _ _ _ _ c.loop-s.invariant _ (omega arith) (omega arith) (omega arith) w.if-is_new.ensures w.put.ensures)
       | else-is_new w ↦
           along4 (Entered _ _ _ _ _ _ _ _) w.reach-is w.ranks-is w.waits-is w.next-is
-          (entered-miss _ _ _ _ _ _ _ _ _ _ _ _ c.loop-s.invariant w.if-is_new.ensures)
+          (entered_miss _ _ _ _ _ _ _ _ _ _ _ _ c.loop-s.invariant w.if-is_new.ensures)
     ]
 
 pub returns : goal.returns

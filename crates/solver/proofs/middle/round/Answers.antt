@@ -3,7 +3,7 @@ use Rattle.sets.specs.Arena.{arena_game}
 use Rattle.sets.specs.Member.{member}
 use Rattle.sets.proofs.Arenas.{promises_is}
 use Rattle.solver.specs.Reach.{Rounded}
-use Rattle.solver.proofs.Rounds.{Rounding, rounded_base, rounded-more}
+use Rattle.solver.proofs.Rounds.{Rounding, rounded_base, rounded_more}
 use Rattle.sets.proofs.Members.{member_below}
 use Rattle.solver.proofs.Rows.{part_length, row_fits, row_part, row_here, row_there}
 use Rattle.solver.proofs.middle.round.Goals as goal
@@ -25,7 +25,7 @@ loop-i-preserved c =
     c.wait_within.auto.turns ∙ part_length _ _ _ _ (omega arith) fits in
     record {
       on = λ r is h.
-          rounded-more _ _ _ _ _ r _ _ _ _ _ _ _ _ (omega (arith, promises_is c.args.arena)) (λ s z. omega (arith, member_below c.args.zone.now s z)) is (c.loop-i.invariant.on r is h)
+          rounded_more _ _ _ _ _ r _ _ _ _ _ _ _ _ (omega (arith, promises_is c.args.arena)) (λ s z. omega (arith, member_below c.args.zone.now s z)) is (c.loop-i.invariant.on r is h)
           c.wait_within.new.stay (omega arith) _ _ c.wait_within.ensures _
           (λ s l. row_part _ _ _ s _ (omega arith) l)
           (λ s l. row_here _ _ _ _ s _ part fits l)

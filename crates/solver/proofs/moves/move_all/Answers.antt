@@ -1,5 +1,5 @@
 use Rattle.std.proofs.Common.{◌≡◌, ℕ, ◌+◌, ◌*◌, ◌≤◌, length, sym, refl, ◌∙◌, arith}
-use Rattle.game.specs.Counterstrategy.{turns as turn-rows}
+use Rattle.game.specs.Counterstrategy.{turns as turn_rows}
 use Rattle.sets.specs.Arena.{arena_game}
 use Rattle.sets.proofs.Arenas.{after_below}
 use Rattle.solver.specs.Reasons.{row}
@@ -13,16 +13,16 @@ loop-i-init c = moved_none _ _ _ _ _ _ _
 pub loop-i-preserved : goal.loop-i-preserved
 loop-i-preserved c =
     let a = c.args.arena in
-    let fits-t : c.loop-i.i * a.states + a.states ≤ length c.loop-i.turns =
-    row_fits _ _ (turn-rows a.promise_count) _ (omega arith) (omega (arith, c.requires.turns)) in
-    let fits-m : c.loop-i.i * a.states + a.states ≤ length c.loop-i.moves =
-    row_fits _ _ (turn-rows a.promise_count) _ (omega arith) (omega (arith, c.requires.moves)) in
-    let part-t : length c.clear_row.new.turns ≡ a.states = c.clear_row.auto.turns ∙ part_length _ _ _ _ (omega arith) fits-t in
-    let part_m : length c.move_row.new.moves ≡ a.states = c.move_row.auto.moves ∙ part_length _ _ _ _ (omega arith) fits-m in
+    let fits_t : c.loop-i.i * a.states + a.states ≤ length c.loop-i.turns =
+    row_fits _ _ (turn_rows a.promise_count) _ (omega arith) (omega (arith, c.requires.turns)) in
+    let fits_m : c.loop-i.i * a.states + a.states ≤ length c.loop-i.moves =
+    row_fits _ _ (turn_rows a.promise_count) _ (omega arith) (omega (arith, c.requires.moves)) in
+    let part_t : length c.clear_row.new.turns ≡ a.states = c.clear_row.auto.turns ∙ part_length _ _ _ _ (omega arith) fits_t in
+    let part_m : length c.move_row.new.moves ≡ a.states = c.move_row.auto.moves ∙ part_length _ _ _ _ (omega arith) fits_m in
     moved_more _ _ (λ s e k. after_below a s e k) _ _ _ _ _ _ _ c.loop-i.invariant
     _ _ _ c.clear_row.ensures _
     (λ s l. row_part _ _ _ s _ (omega arith) l)
-    (λ s l. row_here _ _ _ _ s _ part-t fits-t l) (λ k s ne l. row_there _ _ _ _ k s _ (omega arith) part-t fits-t ne l)
-    (λ s l. sym (row_here _ _ _ _ s _ part-t fits-t l))
+    (λ s l. row_here _ _ _ _ s _ part_t fits_t l) (λ k s ne l. row_there _ _ _ _ k s _ (omega arith) part_t fits_t ne l)
+    (λ s l. sym (row_here _ _ _ _ s _ part_t fits_t l))
     _ _ c.move_row.ensures
-    (λ s l. row_here _ _ _ _ s _ part_m fits-m l) (λ k s ne l. row_there _ _ _ _ k s _ (omega arith) part_m fits-m ne l)
+    (λ s l. row_here _ _ _ _ s _ part_m fits_m l) (λ k s ne l. row_there _ _ _ _ k s _ (omega arith) part_m fits_m ne l)

@@ -4,7 +4,7 @@ use Rattle.sets.specs.Count.{count}
 use Rattle.sets.specs.Member.{member}
 use Rattle.sets.proofs.Counts.{count_some}
 use Rattle.solver.specs.Settle.{Dropped}
-use Rattle.solver.proofs.Drops.{dropped_none, dropped-miss, dropped-hit}
+use Rattle.solver.proofs.Drops.{dropped_none, dropped_miss, dropped_hit}
 use Rattle.solver.proofs.Shrinks.{along4}
 use Rattle.solver.proofs.outer.drop_lost.Goals as goal
 use Rattle.solver.proofs.outer.drop_lost.Goals.{then-is_new, else-is_new}
@@ -29,10 +29,10 @@ loop-s-preserved c =
     elim c.if-is_new.branch [
       | then-is_new w ↦
           along4 (Dropped _ _ _ _ _ _ _ _) w.zone-is w.layers-is w.avoids-is w.next-is
-          (dropped-hit _ _ _ _ _ _ _ _ _ _ _ _ c.loop-s.invariant _ (omega arith) (omega arith) (omega arith) w.if-is_new.ensures w.put.ensures)
+          (dropped_hit _ _ _ _ _ _ _ _ _ _ _ _ c.loop-s.invariant _ (omega arith) (omega arith) (omega arith) w.if-is_new.ensures w.put.ensures)
       | else-is_new w ↦
           along4 (Dropped _ _ _ _ _ _ _ _) w.zone-is w.layers-is w.avoids-is w.next-is
-          (dropped-miss _ _ _ _ _ _ _ _ _ _ _ _ c.loop-s.invariant w.if-is_new.ensures)
+          (dropped_miss _ _ _ _ _ _ _ _ _ _ _ _ c.loop-s.invariant w.if-is_new.ensures)
     ]
 
 pub returns : goal.returns

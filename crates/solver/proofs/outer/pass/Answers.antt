@@ -2,7 +2,7 @@ use Rattle.std.proofs.Common.{◌≡◌, ℕ, ◌+◌, ◌*◌, ◌<◌, ◌≤�
 use Rattle.sets.specs.Arena.{arena_game}
 use Rattle.sets.specs.Member.{member}
 use Rattle.sets.proofs.Arenas.{goals_is, after_below}
-use Rattle.solver.proofs.Passes.{passed_none, passed-more}
+use Rattle.solver.proofs.Passes.{passed_none, passed_more}
 use Rattle.solver.proofs.Rows.{part_length, row_fits, row_here, row_there}
 use Rattle.solver.proofs.outer.pass.Goals as goal
 
@@ -17,14 +17,14 @@ slice_bounds-attain-end-in-loop-j c =
 pub loop-j-preserved : goal.loop-j-preserved
 loop-j-preserved c =
     let a = c.args.arena in
-    let fits-r : c.loop-j.j * a.states + a.states ≤ length c.loop-j.ranks =
+    let fits_r : c.loop-j.j * a.states + a.states ≤ length c.loop-j.ranks =
     row_fits _ _ a.goal_count _ c.loop-j-test.true (omega (arith, c.requires.ranks)) in
-    let fits-w : c.loop-j.j * a.states + a.states ≤ length c.loop-j.waits =
+    let fits_w : c.loop-j.j * a.states + a.states ≤ length c.loop-j.waits =
     row_fits _ _ a.goal_count _ c.loop-j-test.true (omega (arith, c.requires.waits)) in
-    let part-r : length c.attain.new.ranks ≡ a.states = c.attain.auto.ranks ∙ part_length _ _ _ _ (omega arith) fits-r in
-    let part-w : length c.attain.new.waits ≡ a.states = c.attain.auto.waits ∙ part_length _ _ _ _ (omega arith) fits-w in
-    passed-more _ _ (λ s e k. after_below a s e k) _ _ _ _ _ _ _ _ _ _ c.loop-j.invariant (omega (arith, goals_is a)) (omega arith)
+    let part_r : length c.attain.new.ranks ≡ a.states = c.attain.auto.ranks ∙ part_length _ _ _ _ (omega arith) fits_r in
+    let part_w : length c.attain.new.waits ≡ a.states = c.attain.auto.waits ∙ part_length _ _ _ _ (omega arith) fits_w in
+    passed_more _ _ (λ s e k. after_below a s e k) _ _ _ _ _ _ _ _ _ _ c.loop-j.invariant (omega (arith, goals_is a)) (omega arith)
     _ _ _ _ c.attain.ensures _ _
-    (λ s l. row_here _ _ _ _ s _ part-r fits-r l) (λ k s ne l. row_there _ _ _ _ k s _ (omega arith) part-r fits-r ne l)
-    (λ s l. row_here _ _ _ _ s _ part-w fits-w l) (λ k s ne l. row_there _ _ _ _ k s _ (omega arith) part-w fits-w ne l)
+    (λ s l. row_here _ _ _ _ s _ part_r fits_r l) (λ k s ne l. row_there _ _ _ _ k s _ (omega arith) part_r fits_r ne l)
+    (λ s l. row_here _ _ _ _ s _ part_w fits_w l) (λ k s ne l. row_there _ _ _ _ k s _ (omega arith) part_w fits_w ne l)
     _ _ _ _ c.drop_lost-next.ensures

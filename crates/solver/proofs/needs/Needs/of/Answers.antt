@@ -7,13 +7,13 @@ use Rattle.solver.proofs.needs.Needs.of.Goals as goal
 
 pub invariant_of-result : goal.invariant_of-result
 invariant_of-result c =
-    let r = c.args.rules.now in (
-      omega (arith, c.states.ensures, most_states r.widths.state),
-      (
-        omega (arith, c.moves.ensures, most_moves r.widths.moves),
-        (omega (arith, c.answers.ensures, most_moves r.widths.answer), (search rules, (search rules, tt))),
-      ),
-    )
+    let r = c.args.rules.now in record {
+      most_states = omega (arith, c.states.ensures, most_states r.widths.state);
+      most_moves = omega (arith, c.moves.ensures, most_moves r.widths.moves);
+      most_answers = omega (arith, c.answers.ensures, most_moves r.widths.answer);
+      most_goals = search rules;
+      most_turns = search rules;
+    }
 
 pub returns : goal.returns
 returns c =
