@@ -1,12 +1,12 @@
 -- Acceptance is what it says, and what it means for plays.
-use Rattle.std.proofs.Common.{◌≡◌, ℕ, ◌^◌, ◌<◌, Bool, true, false, ◌&&◌, List, length, get_or, is_ok, Some, None, Decides, Option, Result, sym, refl, ap, ◌∙◌, arith}
+use Rattle.std.proofs.Common.{◌≡◌, ℕ, ◌^◌, ◌<◌, true, List, length, get_or, is_ok, Some, None, Decides, Option, Result, sym, refl, ap, ◌∙◌, arith}
 use Rattle.std.proofs.lemmas.Bool.{false≢true, and_parts, and_from, eqb-true}
 use Rattle.game.specs.declared.refusal.Refusal.{Refusal}
 use Rattle.game.specs.declared.refusal.Refusal.TheVariants.{WayFault}
 use Rattle.game.specs.Counterstrategy.{Counterstrategy, CounterHolds, turns}
 use Rattle.game.specs.Content.{Content}
 use Rattle.game.specs.Meaning.{game_of}
-use Rattle.game.specs.Finite.{all, counter_row, counter_state, counter_test}
+use Rattle.game.specs.Finite.{counter_row, counter_state, counter_test}
 use Rattle.game.proofs.Tested.{counter_tested}
 use Rattle.game.proofs.Beats.{counter_wins}
 use Rattle.game.proofs.Loses.{known_loses}

@@ -1,14 +1,11 @@
 -- Writing and reading a counterstrategy are inverse: row by row, and so for all rows.
-use Rattle.std.proofs.Common.{◌≡◌, ℕ, zero, suc, ◌+◌, ◌-◌, ◌*◌, ◌/◌, ◌%◌, ◌<◌, ◌≤◌, Bool, true, false, cond, eqb, List, [], ◌∷◌, ◌++◌, length, get_or, sym, refl, ap, ◌∙◌, ⊎_elim, arith}
-use Rattle.std.proofs.lemmas.List.{length-append, ext_get_or}
-use Rattle.std.proofs.lemmas.Bool.{cases_eq}
-use Rattle.game.specs.Counterstrategy.{Counterstrategy}
-use Rattle.rows.specs.declared.row.Grid.{Grid}
-use Rattle.rows.specs.Rows.{pair_at, row_at}
-use Rattle.rows.specs.Written.{rows_of, all_rows}
+use Rattle.std.proofs.Common.{◌≡◌, ℕ, zero, suc, ◌+◌, ◌*◌, ◌/◌, ◌%◌, ◌<◌, Bool, true, false, cond, eqb, List, ◌++◌, length, get_or, sym, refl, ap, ◌∙◌, arith}
+use Rattle.std.proofs.lemmas.List.{ext_get_or}
+use Rattle.rows.specs.Rows.{row_at}
+use Rattle.rows.specs.Written.{rows_of}
 use Rattle.rows.proofs.Gathered.{length_rows, get_d_rows, row_written, rows_read, same_rows, row_bytes_fit, row_length}
-use Rattle.counter.specs.Ways.{known_in, layer_in, avoid_in, move_in, rank_in, counterstrategy_of}
-use Rattle.counter.specs.Written.{head_bytes, turn_bytes, row_bytes, way_bytes, Agrees, WayWritten, WayRead}
+use Rattle.counter.specs.Ways.{known_in, layer_in, avoid_in, move_in, rank_in}
+use Rattle.counter.specs.Written.{head_bytes, turn_bytes, row_bytes, WayWritten, WayRead}
 
 module _ (n : ℕ) (known : Bool) (layer avoid : ℕ) (move rank : ℕ → ℕ) where
   abbrev row : List ℕ

@@ -1,19 +1,18 @@
 -- The tests of the code, lane by lane and by what it keeps of a row, are those of the definitions.
-use Rattle.std.proofs.Common.{◌≡◌, ℕ, zero, suc, ◌+◌, ◌*◌, ◌^◌, ◌<◌, ◌≤◌, Bool, true, false, cond, not, ◌&&◌, ◌||◌, eqb, ltb, sym, refl, ap, ◌∙◌, arith}
+use Rattle.std.proofs.Common.{◌≡◌, ℕ, ◌+◌, ◌*◌, ◌^◌, ◌<◌, ◌≤◌, Bool, true, false, cond, not, ◌&&◌, ◌||◌, eqb, ltb, sym, refl, ap, ◌∙◌, arith}
 use Rattle.std.proofs.lemmas.Bool.{lt-ltb, le-ltb, eqb-true}
 use Rattle.std.proofs.lemmas.Bool.Decides.{nat_tests}
-use Rattle.formula.specs.Bits.{bit}
 use Rattle.game.specs.Game.{Game}
 use Rattle.game.specs.Counterstrategy.{Counterstrategy, kept}
 use Rattle.game.specs.Content.{Content}
 use Rattle.game.specs.Meaning.{value_of, game_of}
-use Rattle.game.specs.Finite.{implies, falls, counter_step}
+use Rattle.game.specs.Finite.{implies, falls}
 use Rattle.rows.proofs.Failing.{under}
 use Rattle.rows.specs.Lanes.{lane_number}
 use Rattle.counter.specs.declared.check.Here.{Here}
 use Rattle.counter.specs.declared.check.Steps.{Steps}
 use Rattle.counter.specs.Sound.{answer_sound}
-use Rattle.counter.specs.Steps.{away, StandsFor, onward, StepsOf, step_by}
+use Rattle.counter.specs.Steps.{StandsFor, onward, StepsOf, step_by}
 
 -- a lane of the answer rule's values, within the guards of the game
 pub allowed_lane : (c : Content) (s e r : ℕ) (v : Bool) → s < 2 ^ c.state → e < 2 ^ c.moves → r < 2 ^ c.answer →

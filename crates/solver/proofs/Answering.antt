@@ -1,15 +1,13 @@
 -- The answers of the table, goal by goal, and that the table holds together.
 --   answer_same     the same answer for ranks that are equal
 --   answered_more   one more goal
-use Rattle.std.proofs.Common.{◌≡◌, ℕ, ◌+◌, ◌*◌, ◌<◌, ◌≤◌, Bool, true, false, ◌⊎◌, List, length, sym, refl, ap, ◌∙◌, subst, inl, inr, ⊎_elim, mul_comm, arith}
+use Rattle.std.proofs.Common.{◌≡◌, ℕ, ◌+◌, ◌*◌, ◌<◌, ◌≤◌, false, ◌⊎◌, List, length, sym, refl, subst}
 use borrow.Rule.Slice.PartMut.{put_mid}
-use Rattle.std.proofs.lemmas.Nat.{mul-add-lt}
 use Rattle.game.specs.Game.{Game}
 use Rattle.sets.specs.Member.{Set}
-use Rattle.sets.specs.Step.{Forced}
 use Rattle.sets.proofs.Arenas.{place_move}
-use Rattle.solver.specs.Choice.{Answer, Answered, Cells, Rows}
-use Rattle.solver.specs.Reasons.{Falls, Fine, cell, row}
+use Rattle.solver.specs.Choice.{Answer, Answered, Rows}
+use Rattle.solver.specs.Reasons.{Fine, cell, row}
 use Rattle.solver.proofs.Rows.{rows_more}
 use Rattle.solver.proofs.Shrinks.{along4}
 

@@ -3,12 +3,11 @@
 --   on_base     what is reached is in that base
 --   Attaining   what holds before each round
 --   attained    a round without a rank ends it
-use Rattle.std.proofs.Common.{◌≡◌, ℕ, ◌+◌, ◌<◌, ◌≤◌, Bool, true, false, ◌⊎◌, List, sym, refl, ap, ◌∙◌, subst, inl, inr, ⊎_elim}
+use Rattle.std.proofs.Common.{◌≡◌, ℕ, ◌<◌, ◌≤◌, true, false, List, sym, ◌∙◌, subst, inl, inr}
 use Rattle.game.specs.Game.{Game}
-use Rattle.sets.specs.Member.{Set, In, Within, member}
-use Rattle.sets.specs.Step.{Cpre}
-use Rattle.solver.specs.Region.{Reached, Base, Waiting}
-use Rattle.solver.specs.Reasons.{Later, cell, row}
+use Rattle.sets.specs.Member.{Set, member}
+use Rattle.solver.specs.Region.{Base}
+use Rattle.solver.specs.Reasons.{cell, row}
 use Rattle.solver.specs.Reach.{Hit, Onto, Grounded, IsBase, Ranked, Settled, Rounded, Attained}
 use Rattle.solver.specs.Sweep.{Decided}
 use Rattle.solver.proofs.Ranks.{grounded, settled_least}

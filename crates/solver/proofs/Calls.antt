@@ -1,7 +1,7 @@
 -- From the parts that were written to the whole of the lent slices.
 --   Front         a part at the start of a slice was written
 --   solves_from   what the parts hold, the slices hold
-use Rattle.std.proofs.Common.{◌≡◌, ℕ, ◌+◌, ◌*◌, ◌<◌, ◌≤◌, List, ◌++◌, length, take, drop, sym, refl, ap, ◌∙◌, subst, arith}
+use Rattle.std.proofs.Common.{◌≡◌, ℕ, ◌≤◌, List, ◌++◌, length, take, drop, ap, ◌∙◌}
 use Rattle.std.proofs.lemmas.List.{take_at, drop_at, length-take-le}
 use Rattle.sets.specs.Arena.{arena_game}
 use Rattle.sets.specs.declared.arena.Arena.{Arena}

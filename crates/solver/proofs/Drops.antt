@@ -1,10 +1,10 @@
 -- The pass that drops what a goal can't be reached from, state by state.
 --   dropped_none, -miss, -hit   the pass begins; goes by a state; drops a state
 --   dropped_some                where a state is dropped, a layer is given
-use Rattle.std.proofs.Common.{◌≡◌, ℕ, ◌+◌, ◌<◌, ◌≤◌, Bool, true, false, ◌⊎◌, List, length, set, sym, refl, ap, ◌∙◌, subst, inl, inr, ⊎_elim, arith}
+use Rattle.std.proofs.Common.{◌≡◌, ℕ, ◌+◌, ◌<◌, false, ◌⊎◌, List, length, set, sym, refl, ap, ◌∙◌, inl, inr, ⊎_elim, arith}
 use borrow.Author.Tests.{both_ways}
 use Rattle.std.proofs.lemmas.Bool.{cases_eq, cases_Bool}
-use Rattle.sets.specs.Member.{Set, Within, member, room, Put}
+use Rattle.sets.specs.Member.{Within, member, room, Put}
 use Rattle.sets.specs.Count.{count}
 use Rattle.sets.proofs.Counts.{count_out}
 use Rattle.sets.proofs.Members.{member_below}

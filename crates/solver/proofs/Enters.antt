@@ -1,7 +1,7 @@
 -- The pass that enters what was found, state by state.
 --   entered_none, -miss, -hit   the pass begins; goes by a state; enters a state
-use Rattle.std.proofs.Common.{◌≡◌, ℕ, ◌+◌, ◌<◌, ◌≤◌, Bool, true, false, List, length, set, sym, refl, ap, ◌∙◌, subst, arith}
-use Rattle.sets.specs.Member.{Set, member, Put}
+use Rattle.std.proofs.Common.{◌≡◌, ℕ, ◌+◌, ◌<◌, true, List, length, set, sym, refl, ◌∙◌, arith}
+use Rattle.sets.specs.Member.{member, Put}
 use Rattle.sets.specs.Count.{count}
 use Rattle.sets.proofs.Counts.{count_in}
 use Rattle.solver.specs.Reasons.{cell}

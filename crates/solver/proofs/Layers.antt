@@ -4,24 +4,23 @@
 --   lost_drop       dropping what a goal can't be reached from
 --   won_now         where nothing is dropped, the goal is won
 --   won_same        the same for ranks that are equal
-use Rattle.std.proofs.Common.{◌≡◌, ℕ, zero, suc, ◌+◌, ◌<◌, ◌≤◌, Bool, true, false, not, ◌&&◌, ltb, ◌⊎◌, List, sym, refl, ap, ◌∙◌, subst, inl, inr, ⊎_elim, arith, ltb-true, lt-ltb}
-use borrow.Author.Tests.{clash, both_ways}
-use Rattle.std.proofs.lemmas.Bool.{cases_Bool, cases_lt, cases_eq, and_from, and_parts, and_right, not_from_false, not-true}
+use Rattle.std.proofs.Common.{◌≡◌, ℕ, zero, suc, ◌+◌, ◌<◌, ◌≤◌, true, false, not, ◌&&◌, ltb, ◌⊎◌, List, sym, refl, ◌∙◌, subst, inl, inr, ⊎_elim, arith, lt-ltb}
+use borrow.Author.Tests.{both_ways}
+use Rattle.std.proofs.lemmas.Bool.{cases_Bool, cases_lt, and_from, and_parts, not_from_false, not-true}
 use Rattle.game.specs.Game.{Game}
 use Rattle.game.specs.Counterstrategy.{turns, kept}
 use Rattle.sets.specs.Count.{count}
-use Rattle.sets.specs.Member.{Set, In, Within, member}
+use Rattle.sets.specs.Member.{Set, In, Within}
 use Rattle.sets.specs.Step.{Cpre}
 use Rattle.sets.proofs.Counts.{count_most}
 use Rattle.sets.proofs.Steps.{cpre_mono, cpre_below}
-use Rattle.solver.specs.Fixpoint.{Kept, Closed, Greatest}
-use Rattle.solver.specs.Region.{Reached, Base, Waiting, Inner, Middle, Outer}
-use Rattle.solver.specs.Reasons.{Fine, Falls, Later, Free, Barred, losing, cell, row}
+use Rattle.solver.specs.Fixpoint.{Kept}
+use Rattle.solver.specs.Region.{Base, Inner, Middle, Outer}
+use Rattle.solver.specs.Reasons.{Fine, Falls, Later, Free, Barred, losing, row}
 use Rattle.solver.specs.Reach.{New, Old, Attained}
 use Rattle.solver.specs.Settle.{Won, Lost}
 use Rattle.solver.specs.Sweep.{Marked}
 use Rattle.solver.proofs.Shrinks.{along3, along4}
-use Rattle.solver.proofs.Stays.{inner_mono}
 
 -- `Descends`, by the values of the two states: layer, goal kept away from, rank
 abbrev Descent : Game → ℕ → ℕ → ℕ → ℕ → ℕ → ℕ → ℕ → ℕ → Type 0

@@ -2,14 +2,13 @@
 --   open_same    an open state stays open for ranks that are equal
 --   move_same    the same move for ranks that are equal
 --   moved_none, moved_more   before the first promise; one more promise
-use Rattle.std.proofs.Common.{◌≡◌, ℕ, ◌+◌, ◌*◌, ◌<◌, ◌≤◌, Bool, true, false, ◌⊎◌, List, sym, refl, ap, ◌∙◌, subst, inl, inr, ⊎_elim, arith}
+use Rattle.std.proofs.Common.{◌≡◌, ℕ, ◌+◌, ◌<◌, true, false, ◌⊎◌, List, sym, refl, ◌∙◌, subst, ⊎_elim, arith}
 use Rattle.std.proofs.lemmas.Bool.{cases_eq}
 use Rattle.game.specs.Game.{Game}
 use Rattle.game.specs.Counterstrategy.{kept}
 use Rattle.sets.specs.Member.{Set}
-use Rattle.sets.specs.Step.{Cpre}
 use Rattle.sets.proofs.Steps.{cpre_below}
-use Rattle.solver.specs.Choice.{Open, Shut, AllOpen, Chosen, Move, Cells, Cleared, Moved}
+use Rattle.solver.specs.Choice.{Open, Shut, Move, Cells, Cleared, Moved}
 use Rattle.solver.specs.Reasons.{cell, row}
 use Rattle.solver.proofs.Shrinks.{along2}
 

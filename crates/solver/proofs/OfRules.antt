@@ -10,7 +10,7 @@
 --   solves_rules   what solves the arena solves the game of the rules
 use Rattle.std.proofs.Common.{◌≡◌, ℕ, zero, suc, ◌+◌, ◌*◌, ◌^◌, ◌<◌, ◌≤◌, max, Bool, true, false, cond, not, ◌&&◌, ltb, ◌⊎◌, List, [], ◌++◌, length, take, drop, Ok, Err, Decides, Result, sym, refl, ap, ◌∙◌, subst, inl, inr, arith, length-append, length-drop, lt-ltb}
 use Rattle.std.proofs.lemmas.List.{drop_at}
-use Rattle.std.proofs.lemmas.Bool.{and_from, not_from_false}
+use Rattle.std.proofs.lemmas.Bool.{and_from}
 use Rattle.game.specs.Agree.{Agree}
 use Rattle.game.specs.Content.{Content, Valid}
 use Rattle.game.specs.Counterstrategy.{CounterHolds, turns}
@@ -25,7 +25,7 @@ use Rattle.sets.specs.Arena.{arena_game}
 use Rattle.sets.specs.Member.{member}
 use Rattle.sets.specs.declared.arena.Arena.{Arena}
 use Rattle.sets.proofs.Arenas.{promises_is, goals_is}
-use Rattle.solver.specs.Call.{Memory, Fits, Solves}
+use Rattle.solver.specs.Call.{Fits, Solves}
 use Rattle.solver.specs.Rules.{Lent, GameFit, TableFit, WayFit, AllFits, Lacks, Beyond, Known, Winnable, Zeros, ZerosAt, SolvesRules, ReadCall, RulesCall, plan_in, way_in}
 use Rattle.solver.specs.declared.memory.Short.TheVariants.{Tables, Way}
 use Rattle.solver.specs.Solution.{Unused}

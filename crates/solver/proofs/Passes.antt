@@ -2,13 +2,11 @@
 --   passed_none   before the first goal
 --   passed_more   one more goal
 --   solved        a round that drops nothing ends it
-use Rattle.std.proofs.Common.{◌≡◌, ℕ, ◌+◌, ◌<◌, ◌≤◌, Bool, true, false, ◌⊎◌, List, sym, refl, ap, ◌∙◌, subst, inl, inr, ⊎_elim, arith}
+use Rattle.std.proofs.Common.{◌≡◌, ℕ, ◌+◌, ◌<◌, true, List, sym, refl, ap, ◌∙◌, subst, ⊎_elim, arith}
 use Rattle.std.proofs.lemmas.Bool.{cases_eq}
 use Rattle.game.specs.Game.{Game}
-use Rattle.sets.specs.Member.{Set, member, room}
+use Rattle.sets.specs.Member.{member, room}
 use Rattle.sets.proofs.Members.{member_below}
-use Rattle.solver.specs.Fixpoint.{Greatest}
-use Rattle.solver.specs.Region.{Outer}
 use Rattle.solver.specs.Reasons.{cell, row}
 use Rattle.solver.specs.Reach.{Attained}
 use Rattle.solver.specs.Settle.{Dropped, Won, Lost, Passed, Solved}

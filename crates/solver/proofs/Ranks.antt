@@ -3,16 +3,16 @@
 --   grounded        each state reached has the base fact
 --   ranked_enter    entering a set that the inner step keeps
 --   settled_least   when all is settled, the set is the least
-use Rattle.std.proofs.Common.{◌≡◌, ℕ, ◌+◌, ◌<◌, ◌≤◌, Bool, true, false, ◌⊎◌, List, sym, refl, ap, ◌∙◌, subst, inl, inr, ⊎_elim, arith}
-use borrow.Author.Tests.{clash, both_ways}
+use Rattle.std.proofs.Common.{◌≡◌, ℕ, ◌+◌, ◌<◌, ◌≤◌, true, false, ◌⊎◌, List, sym, ◌∙◌, subst, inl, inr, ⊎_elim, arith}
+use borrow.Author.Tests.{both_ways}
 use Rattle.std.proofs.lemmas.Bool.{cases_Bool, cases_lt}
 use Rattle.game.specs.Game.{Game}
 use Rattle.sets.specs.Count.{count}
 use Rattle.sets.specs.Member.{Set, In, Within}
 use Rattle.sets.specs.Step.{Cpre}
 use Rattle.sets.proofs.Steps.{cpre_mono}
-use Rattle.solver.specs.Fixpoint.{Kept, Closed, Least}
-use Rattle.solver.specs.Region.{Reached, Base, Waiting, Inner, Middle}
+use Rattle.solver.specs.Fixpoint.{Kept, Least}
+use Rattle.solver.specs.Region.{Base, Inner, Middle}
 use Rattle.solver.specs.Reasons.{Fine, Falls}
 use Rattle.solver.specs.Reach.{New, Old, Ranked, Settled}
 use Rattle.solver.specs.Sweep.{Marked}

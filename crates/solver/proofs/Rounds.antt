@@ -2,17 +2,17 @@
 --   entered_some    where something is new, a rank is given
 --   rounded_base    the base is entered
 --   rounded_more    what waits for one more promise is entered
-use Rattle.std.proofs.Common.{◌≡◌, ℕ, ◌+◌, ◌<◌, ◌≤◌, Bool, true, false, ◌⊎◌, List, sym, refl, ap, ◌∙◌, subst, inl, inr, ⊎_elim, arith}
-use borrow.Author.Tests.{clash, both_ways}
-use Rattle.std.proofs.lemmas.Bool.{cases_Bool, cases_lt, cases_eq}
+use Rattle.std.proofs.Common.{◌≡◌, ℕ, ◌+◌, ◌<◌, true, false, ◌⊎◌, List, sym, refl, ap, ◌∙◌, subst, inl, inr, ⊎_elim, arith}
+use borrow.Author.Tests.{both_ways}
+use Rattle.std.proofs.lemmas.Bool.{cases_Bool, cases_eq}
 use Rattle.game.specs.Game.{Game}
 use Rattle.sets.specs.Member.{Set, In, Within, member, room}
 use Rattle.sets.proofs.Members.{member_below}
-use Rattle.solver.specs.Fixpoint.{Kept, Greatest}
+use Rattle.solver.specs.Fixpoint.{Kept}
 use Rattle.solver.specs.Region.{Base, Waiting, Inner}
 use Rattle.solver.specs.Reasons.{Later, cell, row}
 use Rattle.solver.specs.Stay.{Stayed}
-use Rattle.solver.specs.Reach.{New, Old, Entered, Ranked, Settled, Rounded, IsBase}
+use Rattle.solver.specs.Reach.{New, Entered, Ranked, Settled, Rounded, IsBase}
 use Rattle.solver.proofs.Stays.{inner_mono, waiting_mono}
 use Rattle.solver.proofs.Ranks.{grounded, ranked_enter, grows}
 

@@ -4,7 +4,7 @@
 --   row_there    the other rows are as they were
 --   row_fits     the row lies within the list
 --   cells_more, rows_more   one more entry, one more row is written
-use Rattle.std.proofs.Common.{◌≡◌, ℕ, suc, ◌+◌, ◌-◌, ◌*◌, ◌<◌, ◌≤◌, false, ◌⊎◌, List, ◌++◌, length, get_or, take, drop, set, replicate, sym, refl, ap, ◌∙◌, subst, inl, inr, ⊎_elim, suc-mul, arith, rules}
+use Rattle.std.proofs.Common.{◌≡◌, ℕ, suc, ◌+◌, ◌*◌, ◌<◌, ◌≤◌, false, ◌⊎◌, List, length, take, drop, set, replicate, sym, ap, ◌∙◌, subst, inl, inr, ⊎_elim, suc-mul, arith, rules}
 use borrow.Rule.Slice.PartMut.{put_mid}
 use Rattle.std.proofs.lemmas.Nat.{mul-le}
 use Rattle.std.proofs.lemmas.List.{places, get_or-take, get_or-drop, get_or-replicate, get_or_past, get_or-set_same, get_or-set_other, length-take-le, length-drop, length-replicate}

@@ -1,7 +1,7 @@
 -- One turn of the inner loop, state by state.
 --   shrunk_miss, -hit          a state stays; a state is taken out
 --   along3                        a fact of three values, at values that are equal to them
-use Rattle.std.proofs.Common.{◌≡◌, ℕ, ◌+◌, ◌<◌, ◌≤◌, Bool, true, false, not, List, length, set, MatchBool, sym, refl, ap, ◌∙◌, subst, arith}
+use Rattle.std.proofs.Common.{◌≡◌, ℕ, ◌+◌, ◌<◌, Bool, true, false, not, List, length, set, MatchBool, sym, refl, ◌∙◌, subst, arith}
 use Rattle.game.specs.Game.{Game}
 use Rattle.sets.specs.Member.{Set, member, Put}
 use Rattle.sets.specs.Count.{count}

@@ -1,7 +1,7 @@
 -- The table and the counterstrategy hold together.
 --   plan_holds, counter_holds   from what the loops leave and what was chosen
 --   solution                    both, with the winning region
-use Rattle.std.proofs.Common.{◌≡◌, ℕ, ◌+◌, ◌*◌, ◌<◌, ◌≤◌, Bool, true, false, not, ◌&&◌, ltb, ◌⊎◌, List, sym, refl, ap, ◌∙◌, subst, inl, inr, ⊎_elim, arith, ltb-true, lt-ltb}
+use Rattle.std.proofs.Common.{◌≡◌, ℕ, ◌+◌, ◌*◌, ◌<◌, true, false, not, ◌&&◌, ltb, ◌⊎◌, List, inl, inr, ⊎_elim, arith, ltb-true, lt-ltb}
 use borrow.Author.Tests.{both_ways, not-true}
 use Rattle.std.proofs.lemmas.Bool.{and_from, and_parts, cases_Bool, not_from_false}
 use Rattle.game.specs.Game.{Game}
@@ -12,10 +12,10 @@ use Rattle.sets.specs.Member.{member, room}
 use Rattle.sets.specs.Step.{Cpre, Forced}
 use Rattle.sets.proofs.Members.{member_below}
 use Rattle.sets.proofs.Steps.{cpre_below}
-use Rattle.solver.specs.Choice.{Answer, Answered, Open, Shut, Chosen, Move, Moved}
+use Rattle.solver.specs.Choice.{Answered, Shut, Chosen, Moved}
 use Rattle.solver.specs.Reasons.{Fine, Barred, cell, row}
 use Rattle.solver.specs.Settle.{Solved}
-use Rattle.solver.specs.Solution.{table, way, Unused, Solution}
+use Rattle.solver.specs.Solution.{table, way, Solution}
 use Rattle.solver.proofs.Moving.{open_same}
 
 forced : (g : Game) (P : ℕ → Type 0) (s e : ℕ) → Cpre g P s → g.moves s e ≡ true → Forced g P s e

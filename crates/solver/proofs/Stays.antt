@@ -3,13 +3,12 @@
 --   Staying                        what holds before each turn
 --   staying_first, staying_turn    it holds at the start; a turn keeps it
 --   staying_last                   when a turn takes nothing out, the set is the greatest
-use Rattle.std.proofs.Common.{◌≡◌, ℕ, ◌+◌, ◌<◌, ◌≤◌, Bool, true, false, ◌⊎◌, sym, refl, ap, ◌∙◌, subst, inl, inr, ⊎_elim, arith}
-use borrow.Author.Tests.{clash, both_ways}
+use Rattle.std.proofs.Common.{◌≡◌, ℕ, ◌+◌, ◌<◌, ◌≤◌, true, false, ◌⊎◌, sym, ◌∙◌, subst, inl, inr, ⊎_elim, arith}
+use borrow.Author.Tests.{both_ways}
 use Rattle.std.proofs.lemmas.Bool.{cases_Bool, cases_lt}
 use Rattle.game.specs.Game.{Game}
 use Rattle.sets.specs.Member.{Set, In, Within}
 use Rattle.sets.specs.Count.{count}
-use Rattle.sets.specs.Step.{Cpre}
 use Rattle.sets.proofs.Counts.{count_most}
 use Rattle.sets.proofs.Steps.{cpre_mono}
 use Rattle.solver.specs.Fixpoint.{Kept, Greatest}

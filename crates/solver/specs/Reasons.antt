@@ -5,7 +5,7 @@
 --   cell, row   an entry of a list; an entry of a row, where the list holds rows of equal length
 --   winning, losing   the table and the counterstrategy read off the loops' results
 --   Free, Barred   a next state that a counterstrategy may be brought to; one that it may not
-use Rattle.std.specs.Prelude.{◌≡◌, ℕ, ◌+◌, ◌*◌, ◌<◌, ◌≤◌, Bool, true, false, not, ◌&&◌, ◌⊎◌, List, nat_lt, slice_index}
+use Rattle.std.specs.Prelude.{◌≡◌, ℕ, ◌+◌, ◌*◌, ◌<◌, ◌≤◌, true, false, not, ◌&&◌, ◌⊎◌, List, nat_lt, slice_index}
 use Rattle.game.specs.Game.{Game}
 use Rattle.game.specs.Plan.{Plan}
 use Rattle.game.specs.Counterstrategy.{Counterstrategy, Descends}

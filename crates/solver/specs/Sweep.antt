@@ -1,7 +1,7 @@
 -- What one pass over the states does. Assumes nothing.
 --   Decided   a set that was written by deciding a fact of each state
 --   Marked    a set and two arrays in which some states were marked
-use Rattle.std.specs.Prelude.{◌≡◌, ℕ, ◌<◌, ◌≤◌, Bool, true, ◌⊎◌, Decides}
+use Rattle.std.specs.Prelude.{◌≡◌, ℕ, ◌<◌, ◌≤◌, Bool, ◌⊎◌, Decides}
 use Rattle.sets.specs.Member.{Set}
 
 -- a state below k is in X exactly if P holds of it

@@ -1,11 +1,11 @@
 -- Acceptance is what it says, and what it means for plays.
-use Rattle.std.proofs.Common.{◌≡◌, ℕ, ◌^◌, ◌<◌, Bool, true, false, ◌&&◌, List, length, get_or, is_ok, Some, None, Decides, Option, Result, sym, refl, ap, ◌∙◌, arith}
+use Rattle.std.proofs.Common.{◌≡◌, ℕ, ◌^◌, ◌<◌, true, List, length, get_or, is_ok, Some, None, Decides, Option, Result, sym, refl, ap, ◌∙◌, arith}
 use Rattle.std.proofs.lemmas.Bool.{false≢true, and_parts, and_from, eqb-true}
 use Rattle.game.specs.declared.refusal.Refusal.{Refusal}
 use Rattle.game.specs.declared.refusal.Refusal.TheVariants.{TableFault}
 use Rattle.game.specs.Content.{Content}
 use Rattle.game.specs.Meaning.{game_of}
-use Rattle.game.specs.Finite.{all, plan_row, plan_state, plan_test}
+use Rattle.game.specs.Finite.{plan_row, plan_state, plan_test}
 use Rattle.game.proofs.Tested.{plan_tested}
 use Rattle.game.proofs.Wins.{plan_wins}
 use Rattle.rows.specs.declared.judge.Accepted.{Accepted}

@@ -1,14 +1,12 @@
 -- Writing and reading a table are inverse: row by row, and so for all rows.
-use Rattle.std.proofs.Common.{◌≡◌, ℕ, zero, suc, ◌+◌, ◌-◌, ◌*◌, ◌/◌, ◌%◌, ◌<◌, ◌≤◌, Bool, true, false, cond, eqb, List, [], ◌∷◌, ◌++◌, length, get_or, take, drop, sym, refl, ap, ◌∙◌, ⊎_elim, arith}
+use Rattle.std.proofs.Common.{◌≡◌, ℕ, zero, suc, ◌+◌, ◌-◌, ◌/◌, ◌%◌, ◌<◌, ◌≤◌, Bool, true, false, cond, eqb, List, [], ◌∷◌, ◌++◌, length, get_or, sym, refl, ap, ◌∙◌, ⊎_elim, arith}
 use Rattle.std.proofs.lemmas.List.{length-append, get_or_append_left, get_or-append_right, ext_get_or}
 use Rattle.std.proofs.lemmas.Bool.{cases_lt, cases_eq}
-use Rattle.game.specs.Plan.{Plan}
-use Rattle.rows.specs.declared.row.Grid.{Grid}
-use Rattle.rows.specs.Rows.{pair_at, row_at}
-use Rattle.rows.specs.Written.{rows_of, all_rows}
+use Rattle.rows.specs.Rows.{row_at}
+use Rattle.rows.specs.Written.{rows_of}
 use Rattle.rows.proofs.Gathered.{length_listed, get_or_listed, row_written, rows_read, same_rows, row_bytes_fit, row_length}
-use Rattle.table.specs.Plans.{known_in, answer_in, rank_in, waits_in, plan_of}
-use Rattle.table.specs.Written.{row_bytes, plan_bytes, table_bytes, Agrees, TableWritten, TableRead}
+use Rattle.table.specs.Plans.{known_in, answer_in, rank_in, waits_in}
+use Rattle.table.specs.Written.{row_bytes, plan_bytes, TableWritten, TableRead}
 
 module _ (known : Bool) (answers : List ℕ) (moves rank waits : ℕ) (n : length answers ≡ moves) where
   -- the bytes of a row, place by place

@@ -1,13 +1,13 @@
 -- The tests of the code, lane by lane and by what it keeps of a row, are those of the definitions.
 use Rattle.std.proofs.Common.{◌≡◌, ℕ, suc, ◌+◌, ◌*◌, ◌^◌, ◌<◌, ◌≤◌, Bool, true, false, not, ◌&&◌, ◌||◌, eqb, ltb, sym, refl, ap, ◌∙◌, arith}
-use Rattle.std.proofs.lemmas.Bool.{lt-ltb, le-ltb, eq-eqb, ne_eqb}
+use Rattle.std.proofs.lemmas.Bool.{lt-ltb, eq-eqb, ne_eqb}
 use Rattle.std.proofs.lemmas.Bool.Decides.{nat_tests}
 use Rattle.formula.specs.Bits.{bit}
 use Rattle.game.specs.Game.{Game, next_around, goal_after}
 use Rattle.game.specs.Plan.{Plan}
 use Rattle.game.specs.Content.{Content}
 use Rattle.game.specs.Meaning.{value_of, game_of}
-use Rattle.game.specs.Finite.{implies, progresses, plan_step}
+use Rattle.game.specs.Finite.{implies, progresses}
 use Rattle.rows.proofs.Failing.{under, and_assoc}
 use Rattle.rows.specs.Lanes.{lane_number}
 use Rattle.table.specs.declared.check.Here.{Here}

@@ -6,10 +6,9 @@
 --   table_verdict  for every row of bytes acceptance, with how many states are known for goal 0, or the first fault
 --   Accepts        what acceptance says: the length, the ranges, that the plan holds together and knows every start
 --   Wins           what it means for plays
-use Rattle.std.specs.Prelude.{◌≡◌, ℕ, ◌^◌, ◌<◌, Bool, true, ◌&&◌, ◌||◌, List, length, Some, None, Ok, Err, Option, Result, ◌==◌, nat_lt, slice_index, slice_index_or}
+use Rattle.std.specs.Prelude.{◌≡◌, ℕ, ◌^◌, ◌<◌, Bool, true, ◌&&◌, ◌||◌, List, length, Result, ◌==◌, nat_lt, slice_index, slice_index_or}
 use Rattle.game.specs.declared.refusal.Refusal.{Refusal}
 use Rattle.game.specs.declared.refusal.Refusal.TheVariants.{TableFault}
-use Rattle.game.specs.Game.{Game}
 use Rattle.game.specs.Plan.{Plan, PlanHolds}
 use Rattle.game.specs.Play.{Winning, follow}
 use Rattle.game.specs.Content.{Content}

@@ -9,7 +9,7 @@ use Rattle.game.specs.Plan.{Plan}
 use Rattle.rows.specs.declared.row.Grid.{Grid}
 use Rattle.rows.specs.Rows.{length_of, row_at}
 use Rattle.rows.specs.Written.{rows_of, all_rows, pair_of}
-use Rattle.table.specs.Plans.{Sheet, plan_of}
+use Rattle.table.specs.Plans.{plan_of}
 
 -- known, the answers, two bytes of rank, and the promise waited for
 abbrev pub row_bytes : Bool → List ℕ → ℕ → ℕ → List ℕ

@@ -1,4 +1,3 @@
-use Rattle.std.proofs.Common.{◌≡◌, ◌+◌, ◌^◌, ◌<◌, sym, refl, ap, ◌∙◌, arith}
 use Rattle.rows.proofs.Fitting.{length_formulas}
 use Rattle.counter.proofs.grid.Goals as goal
 

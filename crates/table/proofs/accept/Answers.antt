@@ -1,8 +1,5 @@
 -- The exit where the bytes have another length, and the verdict on those that have theirs.
-use Rattle.std.proofs.Common.{◌≡◌, Result, sym, refl, ap, ◌∙◌}
-use Rattle.std.proofs.lemmas.Result.{err_from_is_err_and}
-use Rattle.game.specs.declared.refusal.Refusal.{Refusal}
-use Rattle.rows.specs.declared.judge.Accepted.{Accepted}
+use Rattle.std.proofs.Common.{◌≡◌}
 use Rattle.game.specs.Content.{content}
 use Rattle.table.specs.Plans.{sheet_of}
 use Rattle.table.specs.Sound.{table_verdict}

@@ -1,4 +1,3 @@
-use Rattle.std.proofs.Common.{◌≡◌, sym, refl}
 use Rattle.rows.proofs.Fitting.{length_formulas}
 use Rattle.table.proofs.grid.Goals as goal
 

@@ -1,4 +1,4 @@
-use Rattle.std.proofs.Common.{◌≡◌, sym, refl, ◌∙◌, arith}
+use Rattle.std.proofs.Common.{refl, arith}
 use Rattle.sets.proofs.Arenas.{answer_below}
 use Rattle.solver.proofs.answers.answer_for.Goals as goal
 

@@ -1,4 +1,4 @@
-use Rattle.std.proofs.Common.{◌≡◌, ◌+◌, ◌*◌, ◌≤◌, length, sym, ◌∙◌, arith}
+use Rattle.std.proofs.Common.{◌+◌, ◌*◌, ◌≤◌, length, ◌∙◌, arith}
 use Rattle.sets.specs.Arena.{arena_game}
 use Rattle.sets.specs.Member.{member}
 use Rattle.solver.specs.Choice.{Answer}

@@ -1,4 +1,4 @@
-use Rattle.std.proofs.Common.{◌≡◌, sym, ◌∙◌, inl, inr, ⊎_elim, arith}
+use Rattle.std.proofs.Common.{sym, ◌∙◌, inr, ⊎_elim, arith}
 use borrow.Author.Tests.{clash, not-true}
 use Rattle.std.proofs.lemmas.Bool.{not_from_false}
 use Rattle.sets.proofs.Arenas.{promises_is}

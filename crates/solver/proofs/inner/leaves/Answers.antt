@@ -1,7 +1,6 @@
-use Rattle.std.proofs.Common.{ℕ, ◌<◌, ◌⊎◌, sym, ◌∙◌, subst, inl, inr, ⊎_elim}
+use Rattle.std.proofs.Common.{ℕ, ◌<◌, sym, subst, inr, ⊎_elim}
 use borrow.Author.Tests.{both_ways}
 use Rattle.sets.proofs.Arenas.{promises_is}
-use Rattle.sets.specs.Member.{member}
 use Rattle.solver.proofs.Shrinks.{when_not}
 use Rattle.solver.proofs.inner.leaves.Goals as goal
 

@@ -1,4 +1,4 @@
-use Rattle.std.proofs.Common.{◌≡◌, ℕ, ◌+◌, ◌<◌, ◌≤◌, true, List, sym, refl, ap, ◌∙◌, subst, arith}
+use Rattle.std.proofs.Common.{◌≡◌, ℕ, ◌<◌, true, List, sym, refl, ap, ◌∙◌, subst, arith}
 use Rattle.sets.specs.Arena.{arena_game}
 use Rattle.sets.specs.Member.{member}
 use Rattle.sets.proofs.Members.{member_below}

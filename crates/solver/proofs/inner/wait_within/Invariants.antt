@@ -1,4 +1,3 @@
-use Rattle.std.proofs.Common.{◌≡◌, ℕ, ◌<◌, false}
 use Rattle.sets.specs.Arena.{arena_game}
 use Rattle.sets.specs.Count.{count}
 use Rattle.sets.specs.Member.{member}

@@ -1,11 +1,9 @@
-use Rattle.std.proofs.Common.{◌≡◌, ℕ, ◌+◌, ◌*◌, ◌<◌, ◌≤◌, true, List, sym, refl, ap, ◌∙◌, subst, arith}
-use Rattle.sets.specs.Arena.{arena_game}
-use Rattle.sets.specs.Count.{count}
+use Rattle.std.proofs.Common.{◌≡◌, ℕ, ◌<◌, true, List, sym, refl, arith}
 use Rattle.sets.specs.Member.{member, room}
 use Rattle.sets.proofs.Arenas.{promises_is}
 use Rattle.sets.proofs.Counts.{count_most}
 use Rattle.sets.proofs.Members.{member_below}
-use Rattle.solver.proofs.Attains.{base_is, on_base, Attaining, attaining_more, attained}
+use Rattle.solver.proofs.Attains.{base_is, on_base, attaining_more, attained}
 use Rattle.solver.proofs.Ranks.{ranked_none}
 use Rattle.solver.proofs.Rows.{cell_zeros, filled_none}
 use Rattle.solver.proofs.middle.attain.Goals as goal

@@ -1,9 +1,9 @@
-use Rattle.std.proofs.Common.{◌≡◌, ℕ, ◌+◌, ◌*◌, ◌<◌, ◌≤◌, length, sym, refl, ap, ◌∙◌, subst, arith}
+use Rattle.std.proofs.Common.{◌≡◌, ℕ, ◌+◌, ◌*◌, ◌≤◌, length, ◌∙◌, subst, arith}
 use Rattle.sets.specs.Arena.{arena_game}
 use Rattle.sets.specs.Member.{member}
 use Rattle.sets.proofs.Arenas.{promises_is}
 use Rattle.solver.specs.Reach.{Rounded}
-use Rattle.solver.proofs.Rounds.{Rounding, rounded_base, rounded_more}
+use Rattle.solver.proofs.Rounds.{rounded_base, rounded_more}
 use Rattle.sets.proofs.Members.{member_below}
 use Rattle.solver.proofs.Rows.{part_length, row_fits, row_part, row_here, row_there}
 use Rattle.solver.proofs.middle.round.Goals as goal

@@ -1,4 +1,4 @@
-use Rattle.std.proofs.Common.{◌≡◌, ℕ, sym, refl, ◌∙◌, subst, arith, below_more}
+use Rattle.std.proofs.Common.{ℕ, sym, ◌∙◌, subst, arith, below_more}
 use borrow.Author.Tests.{clash}
 use Rattle.sets.specs.Arena.{arena_game}
 use Rattle.sets.specs.Member.{member}

@@ -1,4 +1,4 @@
-use Rattle.std.proofs.Common.{◌≡◌, ◌<◌, sym, refl, ◌∙◌, inl, inr, ⊎_elim, arith, ltb-true, lt-ltb, eq-eqb, eqb-true}
+use Rattle.std.proofs.Common.{sym, refl, inl, inr, ⊎_elim, arith, ltb-true, lt-ltb, eq-eqb, eqb-true}
 use borrow.Author.Tests.{both_ways}
 use Rattle.sets.proofs.Arenas.{promises_is}
 use Rattle.solver.proofs.moves.goes_onward.Goals as goal

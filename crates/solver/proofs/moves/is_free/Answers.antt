@@ -1,5 +1,5 @@
-use Rattle.std.proofs.Common.{◌≡◌, ◌<◌, sym, refl, ◌∙◌, inl, inr, ⊎_elim, arith}
-use borrow.Author.Tests.{clash, both_ways}
+use Rattle.std.proofs.Common.{sym, inr, ⊎_elim, arith}
+use borrow.Author.Tests.{clash}
 use Rattle.sets.proofs.Arenas.{goals_is}
 use Rattle.solver.proofs.moves.is_free.Goals as goal
 

@@ -1,4 +1,4 @@
-use Rattle.std.proofs.Common.{◌≡◌, Bool, true, false, ◌&&◌, ltb, sym, refl, ap, ◌∙◌, arith, le-ltb, lt-ltb}
+use Rattle.std.proofs.Common.{Bool, ◌&&◌, sym, ap, ◌∙◌, arith, le-ltb, lt-ltb}
 use Rattle.sets.specs.Arena.{arena_game}
 use Rattle.sets.proofs.Arenas.{promises_is}
 use Rattle.solver.proofs.moves.is_kept.Goals as goal

@@ -1,8 +1,6 @@
-use Rattle.std.proofs.Common.{◌≡◌, ℕ, ◌+◌, ◌*◌, ◌≤◌, length, sym, refl, ◌∙◌, arith}
+use Rattle.std.proofs.Common.{◌≡◌, ◌+◌, ◌*◌, ◌≤◌, length, sym, ◌∙◌, arith}
 use Rattle.game.specs.Counterstrategy.{turns as turn_rows}
-use Rattle.sets.specs.Arena.{arena_game}
 use Rattle.sets.proofs.Arenas.{after_below}
-use Rattle.solver.specs.Reasons.{row}
 use Rattle.solver.proofs.Moving.{moved_none, moved_more}
 use Rattle.solver.proofs.Rows.{part_length, row_fits, row_part, row_here, row_there}
 use Rattle.solver.proofs.moves.move_all.Goals as goal

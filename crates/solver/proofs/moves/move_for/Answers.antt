@@ -1,4 +1,4 @@
-use Rattle.std.proofs.Common.{◌≡◌, sym, refl, ◌∙◌, arith, below_more}
+use Rattle.std.proofs.Common.{sym, refl, ◌∙◌, arith, below_more}
 use borrow.Author.Tests.{clash}
 use Rattle.sets.specs.Step.{Cpre}
 use Rattle.sets.proofs.Arenas.{move_below}

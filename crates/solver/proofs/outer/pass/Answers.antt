@@ -1,8 +1,6 @@
-use Rattle.std.proofs.Common.{◌≡◌, ℕ, ◌+◌, ◌*◌, ◌<◌, ◌≤◌, length, sym, refl, ap, ◌∙◌, subst, arith, rules}
-use Rattle.sets.specs.Arena.{arena_game}
-use Rattle.sets.specs.Member.{member}
+use Rattle.std.proofs.Common.{◌≡◌, ◌+◌, ◌*◌, ◌≤◌, length, ◌∙◌, arith}
 use Rattle.sets.proofs.Arenas.{goals_is, after_below}
-use Rattle.solver.proofs.Passes.{passed_none, passed_more}
+use Rattle.solver.proofs.Passes.{passed_more}
 use Rattle.solver.proofs.Rows.{part_length, row_fits, row_here, row_there}
 use Rattle.solver.proofs.outer.pass.Goals as goal
 

@@ -1,4 +1,4 @@
-use Rattle.std.proofs.Common.{◌≡◌, ℕ, ◌+◌, ◌*◌, ◌<◌, ◌≤◌, sym, refl, ap, ◌∙◌, subst, arith}
+use Rattle.std.proofs.Common.{sym, arith}
 use mir.Facts.{Fits-below}
 use Rattle.sets.proofs.Arenas.{goals_is}
 use Rattle.solver.proofs.Layers.{lost_first}

@@ -1,4 +1,4 @@
-use Rattle.std.proofs.Common.{◌≡◌, ◌-◌, ◌*◌, sym, refl, ◌∙◌, subst, arith, rules}
+use Rattle.std.proofs.Common.{◌-◌, ◌*◌, sym, ◌∙◌, subst, arith}
 use Rattle.game.specs.Content.{content}
 use Rattle.solver.specs.Call.{lent}
 use Rattle.solver.specs.Rules.{AllFits, all_lent}

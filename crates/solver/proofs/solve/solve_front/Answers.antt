@@ -1,6 +1,6 @@
-use Rattle.std.proofs.Common.{◌≡◌, ℕ, ◌*◌, sym, refl, ap, ◌∙◌, arith}
+use Rattle.std.proofs.Common.{◌≡◌, ℕ, ◌*◌, ap, arith}
 use Rattle.solver.specs.Call.{lent, rows}
-use Rattle.solver.proofs.Calls.{Front, solves_from}
+use Rattle.solver.proofs.Calls.{solves_from}
 use Rattle.solver.proofs.solve.solve_front.Goals as goal
 
 pub returns : goal.returns

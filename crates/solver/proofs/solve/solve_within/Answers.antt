@@ -1,4 +1,4 @@
-use Rattle.std.proofs.Common.{◌≡◌, ℕ, ◌+◌, ◌*◌, ◌≤◌, sym, refl, ◌∙◌, subst, arith}
+use Rattle.std.proofs.Common.{ℕ, sym, subst, arith}
 use Rattle.game.specs.Counterstrategy.{turns as turn_rows}
 use Rattle.sets.specs.Arena.{arena_game}
 use Rattle.sets.specs.Member.{member}

@@ -1,4 +1,4 @@
-use Rattle.std.proofs.Common.{◌≡◌, ◌+◌, ◌^◌, ◌<◌, ltb, sym, refl, ap, ◌∙◌, arith}
+use Rattle.std.proofs.Common.{ltb, sym, refl, ap, ◌∙◌}
 use Rattle.game.specs.Content.{content}
 use Rattle.game.specs.Meaning.{game_of}
 use Rattle.rows.proofs.Fitting.{length_formulas}

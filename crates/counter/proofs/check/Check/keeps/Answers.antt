@@ -1,4 +1,3 @@
-use Rattle.std.proofs.Common.{◌≡◌, ◌+◌, ◌^◌, ◌<◌, sym, refl, ap, ◌∙◌, arith}
 use Rattle.rows.proofs.Fitting.{length_formulas}
 use Rattle.rows.proofs.Failing.{guard_then, guard_else}
 use Rattle.counter.proofs.check.Check.keeps.Goals as goal

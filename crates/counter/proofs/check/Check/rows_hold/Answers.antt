@@ -1,4 +1,4 @@
-use Rattle.std.proofs.Common.{◌≡◌, ℕ, ◌+◌, ◌^◌, ◌<◌, Bool, sym, refl, ap, ◌∙◌, arith}
+use Rattle.std.proofs.Common.{ℕ, Bool, sym, ap, ◌∙◌, arith}
 use Rattle.game.specs.Content.{content}
 use Rattle.game.specs.Counterstrategy.{turns}
 use Rattle.rows.proofs.Failing.{all_more, all_end, all_stop}

@@ -1,4 +1,4 @@
-use Rattle.std.proofs.Common.{◌≡◌, ◌+◌, ◌^◌, ◌<◌, not, sym, refl, ap, ◌∙◌, arith}
+use Rattle.std.proofs.Common.{not, ap}
 use Rattle.rows.proofs.Fitting.{length_formulas}
 use Rattle.rows.proofs.Failing.{guard_then, guard_else}
 use Rattle.counter.proofs.check.Check.stays_away.Goals as goal

@@ -1,4 +1,4 @@
-use Rattle.std.proofs.Common.{◌≡◌, ◌+◌, ◌^◌, ◌<◌, sym, refl, ap, ◌∙◌, arith}
+use Rattle.std.proofs.Common.{refl, arith}
 use Rattle.game.specs.Content.{content}
 use Rattle.rows.proofs.Fitting.{few}
 use Rattle.rows.proofs.Within.{rules_within}

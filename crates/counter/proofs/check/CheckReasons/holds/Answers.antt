@@ -1,4 +1,4 @@
-use Rattle.std.proofs.Common.{◌≡◌, eqb, get_or, sym, ap, ◌∙◌}
+use Rattle.std.proofs.Common.{eqb, get_or, sym, ap, ◌∙◌}
 use Rattle.rows.proofs.Fitting.{length_formulas}
 use Rattle.counter.proofs.Stepping.{known_sound, far_unsound}
 use Rattle.counter.proofs.check.CheckReasons.holds.Goals as goal

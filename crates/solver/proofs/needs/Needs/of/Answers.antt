@@ -1,4 +1,4 @@
-use Rattle.std.proofs.Common.{◌≡◌, ℕ, max, sym, ap, ◌∙◌, arith, rules}
+use Rattle.std.proofs.Common.{sym, ap, ◌∙◌, arith, rules}
 use Rattle.game.specs.Counterstrategy.{turns}
 use Rattle.sets.proofs.Packings.{formulas_length}
 use Rattle.sets.proofs.Tables.{most_states, most_moves}

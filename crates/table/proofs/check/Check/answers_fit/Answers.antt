@@ -1,4 +1,4 @@
-use Rattle.std.proofs.Common.{◌≡◌, sym, ap, ◌∙◌, arith}
+use Rattle.std.proofs.Common.{arith}
 use Rattle.game.specs.Content.{content}
 use Rattle.rows.proofs.Failing.{all_more, all_end, all_stop, below, not_below}
 use Rattle.table.specs.Sound.{answer_fits}

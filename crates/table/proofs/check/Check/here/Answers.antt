@@ -1,4 +1,4 @@
-use Rattle.std.proofs.Common.{◌≡◌, ◌+◌, ◌^◌, ◌<◌, sym, refl, ap, ◌∙◌, arith}
+use Rattle.std.proofs.Common.{sym, refl, ap, ◌∙◌}
 use Rattle.game.specs.Game.{goal_after}
 use Rattle.game.specs.Content.{content}
 use Rattle.game.specs.Meaning.{game_of}

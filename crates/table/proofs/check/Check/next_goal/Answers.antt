@@ -1,4 +1,3 @@
-use Rattle.std.proofs.Common.{◌≡◌, ◌+◌, ◌^◌, ◌<◌, sym, refl, ap, ◌∙◌, arith}
 use Rattle.rows.proofs.Fitting.{length_formulas}
 use Rattle.table.proofs.Stepping.{around_then, around_else}
 use Rattle.table.proofs.check.Check.next_goal.Goals as goal

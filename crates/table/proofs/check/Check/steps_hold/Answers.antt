@@ -1,4 +1,4 @@
-use Rattle.std.proofs.Common.{◌≡◌, ℕ, ◌+◌, ◌^◌, ◌<◌, Bool, sym, refl, ap, ◌∙◌, arith}
+use Rattle.std.proofs.Common.{sym, ◌∙◌, arith}
 use Rattle.game.specs.Content.{content}
 use Rattle.rows.proofs.Failing.{all_more, all_stop}
 use Rattle.table.specs.Plans.{sheet_of, plan_of}

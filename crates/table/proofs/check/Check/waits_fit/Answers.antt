@@ -1,4 +1,3 @@
-use Rattle.std.proofs.Common.{◌≡◌, ◌+◌, ◌^◌, ◌<◌, sym, refl, ap, ◌∙◌, arith}
 use Rattle.rows.proofs.Fitting.{length_formulas}
 use Rattle.table.proofs.Stepping.{fits_then, fits_else}
 use Rattle.table.proofs.check.Check.waits_fit.Goals as goal
