@@ -52,10 +52,10 @@ mod tests {
         let rules = Rules::read(&RULES)?;
         let controller = Controller::new(rules, Table::read(&rules, &TABLE)?, 0);
         let recording = record(controller, &[0, 0, 1, 0], rt.alloc())?;
-        assert!(rt; recording.ran.answers.as_slice() == &[0, 0]);
-        assert!(rt; recording.log.as_slice() == &[0, 0, 0, 0, 0, 0]);
+        assert!(rt; recording.ran.answers.as_slice() == [0, 0].as_slice());
+        assert!(rt; recording.log.as_slice() == [0, 0, 0, 0, 0, 0].as_slice());
         let states = Log::read(recording.log.as_slice())?.replay(&rules, rt.alloc())?;
-        assert!(rt; states.as_slice() == &[0, 0, 0]);
+        assert!(rt; states.as_slice() == [0, 0, 0].as_slice());
         Ok(())
     }
 }

@@ -39,7 +39,7 @@ mod tests {
         let rules = Rules::read(&GOOD)?;
         let mut out = Vec::new(rt.alloc());
         rules.write(&mut out)?;
-        assert!(rt; out.as_slice() == &GOOD);
+        assert!(rt; out.as_slice() == GOOD.as_slice());
         Ok(())
     }
 
@@ -84,7 +84,7 @@ mod tests {
         assert_eq!(rt;
             fault(&[
                 1, 1, 1, 1, 1, 3, 5, 32, 48, 1, 48, 1, 1, 16, 1, 1, 16, 1, 0, 0, 7, 7,
-            ],),
+            ]),
             (1, 20)
         );
     }
