@@ -7,6 +7,7 @@ mod judged;
 use command::{Command, Kind};
 use game::rules::MOST_FILE;
 use judged::judge;
+use std::process::ExitCode;
 
 const USAGE: &str = "check table RULES FILE, or check way RULES FILE";
 
@@ -22,16 +23,21 @@ It prints 'accepted, known N' with the number of states that are known, or 'refu
 // counterstrategy has fewer.
 const MOST_REASONS: u64 = 8 * 4096 * (4 + 64);
 
-fn main(rt: HostRuntime) -> anyhow::Result<()> {
-    let words = cli::words(&rt)?;
+// What the command line asks for.
+fn work(rt: &HostRuntime) -> anyhow::Result<()> {
+    let words = cli::words(rt)?;
     match Command::of(&words) {
         Command::Help => {
             rt.println(HELP)?;
             Ok(())
         }
-        Command::Unclear => cli::misused(&rt, "check", USAGE),
-        Command::Check { kind, rules, file } => check(&rt, kind, rules, file),
+        Command::Unclear => cli::misused(rt, "check", USAGE),
+        Command::Check { kind, rules, file } => check(rt, kind, rules, file),
     }
+}
+
+fn main(rt: HostRuntime) -> ExitCode {
+    cli::ending(work(&rt))
 }
 
 // Judges one file for the rules in another, and prints the verdict.

@@ -1,12 +1,14 @@
 // What the programs share: their arguments, files read up to a limit and written whole, and the ways to end badly.
 #![tactic(auto)]
 
-ghost use Rattle.std.specs.Prelude.{◌≡◌, true, is_err};
+ghost use Rattle.std.specs.Prelude.{◌≡◌, true, is_ok, is_err, if◌then◌else◌};
+ghost use Rattle.std.specs.Process.{exit_status};
 
 use anyhow::anyhow;
 use game::refusal::Refusal;
 use std::fs::File;
 use std::io::{Read, Write};
+use std::process::ExitCode;
 use std::{env, fs, io};
 
 // The arguments after the program's own name.
@@ -87,4 +89,14 @@ pub fn refused(rt: &HostRuntime, refusal: Refusal) -> anyhow::Result<()>
     let place = refusal.place();
     println!(rt; "refused {number} at {place}")?;
     Err(anyhow!("refused"))
+}
+
+// How a program ends: with status 0, or 1 where its work failed. What failed was told where it failed, so nothing is printed.
+pub fn ending(outcome: anyhow::Result<()>) -> ExitCode
+    ensures { exit_status result ≡ (if is_ok outcome then 0 else 1) }
+{
+    match outcome {
+        Ok(()) => ExitCode::SUCCESS,
+        Err(_) => ExitCode::FAILURE,
+    }
 }

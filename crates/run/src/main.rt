@@ -9,6 +9,7 @@ use controller::Controller;
 use game::rules::{MOST_FILE, Rules};
 use order::{Order, start_number};
 use play::recording::record;
+use std::process::ExitCode;
 
 const USAGE: &str =
     "run RULES TABLE [--start N] [--log FILE], or run RULES TABLE [--start N] --ask";
@@ -107,14 +108,19 @@ fn run(rt: &HostRuntime, order: Order) -> anyhow::Result<()> {
     }
 }
 
-fn main(rt: HostRuntime) -> anyhow::Result<()> {
-    let words = cli::words(&rt)?;
+// What the command line asks for.
+fn work(rt: &HostRuntime) -> anyhow::Result<()> {
+    let words = cli::words(rt)?;
     if words.len() == 1 && words[0].as_str() == "--help" {
         rt.println(HELP)?;
         return Ok(());
     }
     match Order::parse(&words) {
-        Some(order) => run(&rt, order),
-        None => cli::misused(&rt, "run", USAGE),
+        Some(order) => run(rt, order),
+        None => cli::misused(rt, "run", USAGE),
     }
+}
+
+fn main(rt: HostRuntime) -> ExitCode {
+    cli::ending(work(&rt))
 }

@@ -11,6 +11,7 @@ use solver::memory::{Outcome, Table, Way};
 use solver::needs::Needs;
 use solver::rules::{Tables, solve_rules};
 use solver::solve::outcome;
+use std::process::ExitCode;
 
 const USAGE: &str = "solve RULES [--table FILE] [--way FILE]";
 
@@ -134,14 +135,19 @@ fn solve(rt: &HostRuntime, task: Task<'_>) -> anyhow::Result<()> {
     Ok(())
 }
 
-fn main(rt: HostRuntime) -> anyhow::Result<()> {
-    let words = cli::words(&rt)?;
+// What the command line asks for.
+fn work(rt: &HostRuntime) -> anyhow::Result<()> {
+    let words = cli::words(rt)?;
     match Command::of(&words) {
         Command::Help => {
             rt.println(HELP)?;
             Ok(())
         }
-        Command::Unclear => cli::misused(&rt, "solve", USAGE),
-        Command::Solve(task) => solve(&rt, task),
+        Command::Unclear => cli::misused(rt, "solve", USAGE),
+        Command::Solve(task) => solve(rt, task),
     }
+}
+
+fn main(rt: HostRuntime) -> ExitCode {
+    cli::ending(work(&rt))
 }

@@ -6,6 +6,7 @@ ghost use Rattle.game.specs.Content.{Valid, content};
 use game::rules::{MOST_FILE, Rules};
 use sets::arena::Arena;
 use sets::tabulate::tabulate;
+use std::process::ExitCode;
 use std::time::Instant;
 
 const USAGE: &str = "tabulation RULES [--time]";
@@ -69,14 +70,19 @@ fn run(rt: &HostRuntime, rules: &Rules<'_>, timed: bool) -> anyhow::Result<()>
     Ok(())
 }
 
-fn main(rt: HostRuntime) -> anyhow::Result<()> {
-    let words = cli::words(&rt)?;
+// What the command line asks for.
+fn work(rt: &HostRuntime) -> anyhow::Result<()> {
+    let words = cli::words(rt)?;
     if words.len() < 1 || words.len() > 2 {
-        return cli::misused(&rt, "tabulation", USAGE);
+        return cli::misused(rt, "tabulation", USAGE);
     }
-    let file = cli::load(&rt, "tabulation", words[0].as_str(), MOST_FILE)?;
+    let file = cli::load(rt, "tabulation", words[0].as_str(), MOST_FILE)?;
     match Rules::read(&file) {
-        Ok(rules) => run(&rt, &rules, words.len() == 2),
-        Err(refusal) => cli::refused(&rt, refusal),
+        Ok(rules) => run(rt, &rules, words.len() == 2),
+        Err(refusal) => cli::refused(rt, refusal),
     }
+}
+
+fn main(rt: HostRuntime) -> ExitCode {
+    cli::ending(work(&rt))
 }
