@@ -3,7 +3,7 @@ use Rattle.std.proofs.Common.{◌≡◌, ℕ, zero, suc, ◌+◌, ◌*◌, ◌/�
 use Rattle.std.proofs.lemmas.List.{ext_get_or}
 use Rattle.rows.specs.Rows.{row_at}
 use Rattle.rows.specs.Written.{rows_of}
-use Rattle.rows.proofs.Gathered.{length_rows, get_d_rows, row_written, rows_read, same_rows, row_bytes_fit, row_length}
+use Rattle.rows.proofs.Gathered.{length_rows, get_or_rows, row_written, rows_read, same_rows, row_bytes_fit, row_length}
 use Rattle.counter.specs.Ways.{known_in, layer_in, avoid_in, move_in, rank_in}
 use Rattle.counter.specs.Written.{head_bytes, turn_bytes, row_bytes, WayWritten, WayRead}
 
@@ -25,7 +25,7 @@ module _ (n : ℕ) (known : Bool) (layer avoid : ℕ) (move rank : ℕ → ℕ) 
   in_turn : (i d k : ℕ) → i < n → d < 3 → k ≡ 4 + 3 * i + d → get_or row k 0 ≡ get_or (turn_bytes (move i) (rank i)) d 0
   in_turn i d k l t e =
       let place : k ≡ suc (suc (suc (suc (i * 3 + d)))) = omega arith in
-      ap (λ m. get_or row m 0) place ∙ get_d_rows 3 n (λ i. turn_bytes (move i) (rank i)) (λ i. refl) i d l t
+      ap (λ m. get_or row m 0) place ∙ get_or_rows 3 n (λ i. turn_bytes (move i) (rank i)) (λ i. refl) i d l t
 
   at_move : (i : ℕ) → i < n → move_in row i ≡ move i
   at_move i l = in_turn i 0 (4 + 3 * i) l (omega arith) (omega arith)

@@ -95,9 +95,9 @@ row_bytes_fit g bs j n a b fit k h =
     omega (arith, same, fit ((j * g.each + n) * g.size + k))
 
 -- a byte of a row among rows
-pub get_d_rows : (size n : ℕ) (f : ℕ → List ℕ) → ((k : ℕ) → length (f k) ≡ size) → (k d : ℕ) → k < n → d < size →
+pub get_or_rows : (size n : ℕ) (f : ℕ → List ℕ) → ((k : ℕ) → length (f k) ≡ size) → (k d : ℕ) → k < n → d < size →
     get_or (rows_of n f) (k * size + d) 0 ≡ get_or (f k) d 0
-get_d_rows size n f h k d l t =
+get_or_rows size n f h k d l t =
     sym (get_or-drop (k * size) (rows_of n f) d 0) ∙ sym (get_or-take size (drop (k * size) (rows_of n f)) d 0 t)
     ∙ ap (λ row. get_or row d 0) (part_rows size n f h k l)
 
