@@ -91,7 +91,8 @@ pub fn refused(rt: &HostRuntime, refusal: Refusal) -> anyhow::Result<()>
     Err(anyhow!("refused"))
 }
 
-// How a program ends: with status 0, or 1 where its work failed. What failed was told where it failed, so nothing is printed.
+// How a program ends: with status 0, or 1 where its work failed. Wrong usage, a refusal and a file that cannot be read or
+// written were told where they came up, so nothing more is printed.
 pub fn ending(outcome: anyhow::Result<()>) -> ExitCode
     ensures { exit_status result ≡ (if is_ok outcome then 0 else 1) }
 {
