@@ -3,7 +3,7 @@
 
     tools/random_runs.py [--steps N] [--seed N] RULES..
 
-Needs target/bin/solve and target/bin/run. For each rules file: solve writes the table, moves are drawn at random among the legal ones
+Needs target/bin/solve and target/bin/run (tools/build makes them). For each rules file: solve writes the table, moves are drawn at random among the legal ones
 while a reader of rules of this script's own follows the play, run answers them all, and each answer must be allowed and the log must have
 the same steps. Then for each goal the longest time without it is printed, beside the longest time without each promise."""
 import argparse, pathlib, random, subprocess, sys, tempfile

@@ -22,6 +22,7 @@ USE = re.compile(r"^(?:pub |ghost )?use ([\w'.+·-]+)\.\{([^}]*)\};?$", re.M)
 GOAL = re.compile(r"goal\.([\w'-]+)")
 BLOCK = re.compile(r"^(?:pub )?(?:data|record)\b.*\n((?:(?: .*)?\n)*)", re.M)
 MEMBER = re.compile(r"^ +(?:pub )?([A-Za-z][\w'-]*) : ", re.M)
+HEADER = re.compile(r"^(--   \S.*?)(  +)(?=\S)", re.M)
 
 # Where the rule gives a name that is taken, another that says the same.
 TAKEN = {"bit-and": "bit_of_and", "bit-or": "bit_of_or", "bit-xor": "bit_of_xor", "Of-rules": "ArenaOfRules"}
@@ -62,6 +63,16 @@ def rewrite(text, words, members):
     return NAME.sub(spelling, text)
 
 
+def with_columns(text, words, members):
+    """The text rewritten, where what a header says of its names stays in its column."""
+
+    def heading(found):
+        head = rewrite(found[1], words, members)
+        return head + " " * max(2, len(found[0]) - len(head))
+
+    return rewrite(HEADER.sub(heading, text), words, members)
+
+
 def clashes(words):
     """New names that an antt text has already, but for a part of a path or a remark, or that two names get."""
     there, seen = set(), {}
@@ -84,7 +95,7 @@ def main():
     if taken := list(clashes(words)):
         sys.exit("respell: taken already: " + ", ".join(taken))
     for path in ANTT + CODE:
-        path.write_text(rewrite(path.read_text(), words, members))
+        path.write_text(with_columns(path.read_text(), words, members))
     for path in PAGES:
         path.write_text(re.sub(r"`[^`\n]*`", lambda quote: rewrite(quote[0], words, members), path.read_text()))
 

@@ -1,6 +1,6 @@
 -- What the functions of the running controller promise, from the controller before to the controller after. Assumes nothing.
 --   Same                       rules and table are what they were
---   StepsTo                   the outcome of a step
+--   StepsTo                    the outcome of a step
 --   taken                      the moves that were answered
 --   RunsTo, PlaysTo, SafeTo the outcome of a run; that it is part of a play; and that it is safe
 use Rattle.std.specs.Prelude.{◌≡◌, ℕ, List, length, take, Ok, Err, vec_items, Result}

@@ -1,6 +1,6 @@
 -- What a walk under a plan is in the words of plays, and that it is safe. Assumes nothing.
---   WalksPlay  a walk is part of the play that follows the plan
---   RunsSafe   a run on a plan that holds together is safe
+--   WalksPlay   a walk is part of the play that follows the plan
+--   RunsSafe    a run on a plan that holds together is safe
 use Rattle.std.specs.Prelude.{◌≡◌, ℕ, List, length, take, Option}
 use Rattle.game.specs.declared.refusal.Refusal.{Refusal}
 use Rattle.game.specs.Game.{Game}

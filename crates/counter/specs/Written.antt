@@ -2,7 +2,7 @@
 --   head_bytes, turn_bytes  the front of a row; the part of a promise gone for
 --   row_bytes, way_bytes    one row; all rows of a counterstrategy
 --   Agrees                  two counterstrategies say the same, where there are rows
---   WayWritten, WayRead   the theorems: what is written is read as it was, and what was read is written as it was
+--   WayWritten, WayRead     the theorems: what is written is read as it was, and what was read is written as it was
 use Rattle.std.specs.Prelude.{◌≡◌, ℕ, ◌+◌, ◌*◌, ◌<◌, Bool, cond, List, [], ◌∷◌, ◌++◌, length, slice_index}
 use Rattle.game.specs.Counterstrategy.{Counterstrategy}
 use Rattle.rows.specs.declared.row.Grid.{Grid}

@@ -1,7 +1,7 @@
 -- What reading promises, beside the definition that it computes. Assumes nothing.
 --   Reads         the outcome of reading a row
 --   Formed        a row is what the formula in it writes
---   ReadWritten, WrittenRead   reading and writing are inverse, both ways round
+--   ReadWritten, WrittenRead     reading and writing are inverse, both ways round
 use Rattle.std.specs.Prelude.{◌≡◌, ℕ, ◌≤◌, List, length, Ok, Err, Result}
 use Rattle.formula.specs.declared.Formula.{Formula}
 use Rattle.formula.specs.declared.scope.Scope.{Scope}

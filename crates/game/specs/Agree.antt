@@ -1,7 +1,7 @@
 -- Games that differ only where no play goes. Assumes nothing.
 --   Agree            two games agree wherever the environment has a move and the answer is allowed
---   PlanAgrees, CounterAgrees      what holds together in one holds together in the other
---   WinningAgrees, BeatenAgrees    who wins in one wins in the other
+--   PlanAgrees, CounterAgrees        what holds together in one holds together in the other
+--   WinningAgrees, BeatenAgrees      who wins in one wins in the other
 use Rattle.std.specs.Prelude.{◌≡◌, ℕ, ◌<◌, true}
 use Rattle.game.specs.Game.{Game}
 use Rattle.game.specs.Plan.{Plan, PlanHolds}

@@ -1,7 +1,7 @@
 -- Tests that decide whether a plan or a counterstrategy holds together, where states, moves and answers are bounded.
 -- Assumes nothing. They go row by row, as a checker's loops do, so that the first state with a faulty row can be named.
 --   Sizes, Within              how many states, moves and answers there are; a game has no others
---   guarded, GuardedWithin    a game without what is out of range; it is within the sizes
+--   guarded, GuardedWithin     a game without what is out of range; it is within the sizes
 --   implies, all               a test that is asked only under another; a test of each number below a bound
 --   progresses                 the test of Progress
 --   plan_step, plan_row        one move in a row of a plan; the row of a goal and a state
@@ -9,7 +9,7 @@
 --   goes_onward, falls         the tests of Onward and Descends
 --   counter_step, counter_row  one answer in a row of a counterstrategy; the row of a promise gone for and a state
 --   counter_state, counter_test  all rows of a state; all states
---   PlanTested, CounterTested  the theorems: the tests decide PlanHolds and CounterHolds
+--   PlanTested, CounterTested    the theorems: the tests decide PlanHolds and CounterHolds
 use Rattle.std.specs.Prelude.{◌≡◌, ℕ, zero, suc, ◌<◌, Bool, true, false, not, ◌&&◌, ◌||◌, Decides, ◌==◌, nat_lt}
 use Rattle.game.specs.Game.{Game, goal_after}
 use Rattle.game.specs.Plan.{Plan, PlanHolds}

@@ -1,6 +1,6 @@
 -- Reading and writing rules are inverse, both ways round; and what the writer promises. Assumes nothing.
 --   Byte                                     a number that one byte holds
---   RulesReadWritten, RulesWrittenRead   the two ways round
+--   RulesReadWritten, RulesWrittenRead       the two ways round
 --   fitted                                   rules as far as a length of one byte can say them
 --   Longer, Appended, Written                what a part of the writer promises, and the whole
 use Rattle.std.specs.Prelude.{◌≡◌, ℕ, ◌<◌, List, [], ◌++◌, take, Ok, Err, Result}

@@ -7,7 +7,7 @@
 --   Legal, Answered  the environment's moves up to a time are ones that it may make; the answers before a time are allowed
 --   Fair             moves are legal at all times, and each promise is kept again and again
 --   Winning          a controller wins from a state
---   NearlyWinning   the same with its visits to goals twice negated
+--   NearlyWinning    the same with its visits to goals twice negated
 --   Beaten           the environment beats a controller from a state
 --   Now, now_after   where a play under a plan is: the goal gone for and the state
 --   follow           the controller that follows a plan

@@ -2,7 +2,7 @@
 --   lift, lift_plan          a lift that moves only with power, which the environment promises again and again
 --   gate, gate_way           a lost game with two promises, which the environment keeps in turn
 --   stuck, stuck_way         a lost game without promises, in which the controller runs out of answers or never comes back
---   SamplesHold             the plan and the counterstrategies hold together, so that these games are won and lost
+--   SamplesHold              the plan and the counterstrategies hold together, so that these games are won and lost
 use Rattle.std.specs.Prelude.{◌+◌, ◌*◌, ◌/◌, ◌%◌, true, false, not, ◌&&◌, ◌||◌, ◌==◌, nat_lt}
 use Rattle.game.specs.Game.{Game, pick}
 use Rattle.game.specs.Plan.{Plan, PlanHolds}

@@ -1,10 +1,10 @@
 -- The theorems of winning, as statements; small functions of `src/theorems.rt` have them as contracts, so that the gate asks for their proofs.
---   PlanWins, CounterWins  what holds together wins
---   NeverBoth               not both can know a state
---   BeatenLoses             no controller wins where the environment beats it
+--   PlanWins, CounterWins    what holds together wins
+--   NeverBoth                not both can know a state
+--   BeatenLoses              no controller wins where the environment beats it
 --   Exactly                  what is known is exactly what can be won
---   OnPlan, StepsOnPlan   a plan knows where it is; and after a legal move still
---   Follows, StaysOnPlan   a play under a plan goes where the plan reckons it to be, and stays on the plan
+--   OnPlan, StepsOnPlan      a plan knows where it is; and after a legal move still
+--   Follows, StaysOnPlan     a play under a plan goes where the plan reckons it to be, and stays on the plan
 use Rattle.std.specs.Prelude.{◌≡◌, ℕ, ◌<◌, true, ◌⊎◌, List, ◌∷◌, ◌≢◌}
 use Rattle.game.specs.Game.{Game}
 use Rattle.game.specs.Plan.{Plan, PlanHolds}

@@ -1,6 +1,6 @@
 -- How many states, moves and answers the game of the rules has. Assumes nothing.
 --   sizes_of      the sizes
---   RulesWithin  the theorem: no move and no answer is out of range
+--   RulesWithin   the theorem: no move and no answer is out of range
 use Rattle.std.specs.Prelude.{◌^◌}
 use Rattle.game.specs.Content.{Content}
 use Rattle.game.specs.Meaning.{game_of}

@@ -2,7 +2,7 @@
 --   rows_of     n rows one after the other
 --   all_rows    the rows of a grid, group by group
 --   pair_of     the two bytes of a number
---   RowWritten, RowsRead  the theorems: a row that was written is read again, and rows that were read are written again
+--   RowWritten, RowsRead    the theorems: a row that was written is read again, and rows that were read are written again
 use Rattle.std.specs.Prelude.{◌≡◌, ℕ, zero, suc, ◌/◌, ◌%◌, ◌<◌, List, [], ◌∷◌, ◌++◌, length}
 use Rattle.rows.specs.declared.row.Grid.{Grid}
 use Rattle.rows.specs.Rows.{length_of, row_at}

@@ -2,7 +2,7 @@
 --   digit   a bit as a number
 --   four    the word of four numbers in neighbouring lanes
 --   field   number j of the four in a word
---   FitsDoubled, Doubled   each number of each word doubled, and a bit added
+--   FitsDoubled, Doubled    each number of each word doubled, and a bit added
 --   spelt   the number that formulas spell in a lane, where a mask has that lane
 --   Spelt   sixteen words hold the numbers of 64 lanes
 use Rattle.std.specs.Prelude.{◌≡◌, ℕ, ◌+◌, ◌*◌, ◌/◌, ◌%◌, ◌^◌, ◌<◌, cond, List, slice_index}

@@ -1,13 +1,13 @@
 -- What the tables of a game hold. Assumes nothing.
---   LegalTable     a word for each state: its legal moves
+--   LegalTable      a word for each state: its legal moves
 --   allowed_at      whether an answer is allowed to a legal move, by the number of its entry
---   AllowedTable   a word for each state and move: the allowed answers, none where the move is not legal
---   NextRow        for each answer to one move the state after it, and 0 where the answer is not allowed
+--   AllowedTable    a word for each state and move: the allowed answers, none where the move is not legal
+--   NextRow         for each answer to one move the state after it, and 0 where the answer is not allowed
 --   next_at         an entry of such a row, by the row's number
---   NextTable      a row for each state and move
+--   NextTable       a row for each state and move
 --   holds_of        in which states each formula of a row holds
---   StateRow       a byte: which promises, or which goals, hold in one state
---   StateTable     such a byte for each state
+--   StateRow        a byte: which promises, or which goals, hold in one state
+--   StateTable      such a byte for each state
 --   state_count, move_count, answer_count   how many there are
 --   Sized           the lengths of the five tables
 --   Tabulated       what the five tables hold, by state, move and answer

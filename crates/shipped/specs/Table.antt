@@ -3,7 +3,7 @@
 --   Verdict                    the one or the other, by a Boolean
 --   everywhere, nowhere, only  in which states a game is won
 --   Answered                   what is said of one game, from the bytes of its file
---   ShippedGames              the table
+--   ShippedGames               the table
 use Rattle.std.specs.Prelude.{◌≡◌, ℕ, ◌^◌, ◌<◌, Bool, true, false, List, [], ◌==◌}
 use Rattle.game.specs.Game.{Game}
 use Rattle.game.specs.Plan.{Plan, PlanHolds}

@@ -3,7 +3,7 @@
 --   same_five, most_turns   sizes from equal numbers; how many promises are gone for
 --   same_sizes     they are those of the rules
 --   fits_arena     slices that are long enough for the rules are so for their arena
---   BeyondGame    what goes beyond in the slices of the tabulated game is as it was
+--   BeyondGame     what goes beyond in the slices of the tabulated game is as it was
 --   beyond_at, rest_same   the same at equal sizes; of one slice
 --   lacks_table, lacks_way   what is the first kind of slices that is too short
 --   rules_call     from rules that were read to the file

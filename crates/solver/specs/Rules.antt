@@ -6,10 +6,10 @@
 --   Known, Winnable        the table knows a state; some controller wins from it
 --   Zeros                  what table and counterstrategy do not use is 0
 --   Beyond                 what goes beyond the entries of the sizes is as it was
---   SolvesRules           what the lent slices hold after it
---   ReadCall              the outcome for rules that were read
+--   SolvesRules            what the lent slices hold after it
+--   ReadCall               the outcome for rules that were read
 --   Refuses                why a call is refused
---   RulesCall             the call's outcome
+--   RulesCall              the call's outcome
 use Rattle.std.specs.Prelude.{◌≡◌, ℕ, ◌+◌, ◌*◌, ◌^◌, ◌<◌, ◌≤◌, true, ◌⊎◌, List, [], length, take, drop, Ok, Err, Result, ◌≢◌}
 use Rattle.game.specs.Content.{Content}
 use Rattle.game.specs.Counterstrategy.{Counterstrategy, CounterHolds}

@@ -2,7 +2,7 @@
 --   row_bytes     one row
 --   table_bytes   a plan's rows
 --   Agrees        two plans say the same, where a sheet has rows
---   TableWritten, TableRead  the theorems: what is written is read as the plan that it was, and what was read is written
+--   TableWritten, TableRead    the theorems: what is written is read as the plan that it was, and what was read is written
 --                              as the bytes that it was read from
 use Rattle.std.specs.Prelude.{◌≡◌, ℕ, ◌+◌, ◌<◌, Bool, cond, List, [], ◌∷◌, ◌++◌, length, slice_index}
 use Rattle.game.specs.Plan.{Plan}
