@@ -2,7 +2,7 @@
 #![tactic(auto)]
 
 use formula::Formula;
-use formula::lanes::Block;
+use formula::lanes::Steps;
 use std::env;
 use std::time::Instant;
 
@@ -19,17 +19,13 @@ const BLOCKS: u16 = 64;
 const ANSWERS: u8 = 16;
 
 // The values in 64 blocks at 64 moves and 16 answers, folded into one word so that none is left out.
+// Three loops over ranges: a chain would nest two flat_maps, and there is nothing but the numbers to go through.
 fn sweep(formula: Formula<'_>) -> u64 {
     let mut all = 0u64;
     for answer in 0..ANSWERS {
         for moved in 0..MOVES {
             for block in 0..BLOCKS {
-                all = all.wrapping_mul(31)
-                    ^ formula.values(&Block {
-                        block,
-                        moved,
-                        answer,
-                    });
+                all = all.wrapping_mul(31) ^ formula.values(&Steps::block(block, moved, answer));
             }
         }
     }

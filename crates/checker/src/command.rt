@@ -7,6 +7,7 @@ pub enum Kind {
     Way,
 }
 
+#[derive(Clone, Copy, PartialEq, Eq, Debug)]
 pub enum Command<'a> {
     Check {
         kind: Kind,
@@ -14,27 +15,21 @@ pub enum Command<'a> {
         file: &'a str,
     },
     Help,
-    Unclear,
 }
 
 impl<'a> Command<'a> {
-    // The command of the words after the program's name.
-    pub fn of(words: &'a Vec<String>) -> Command<'a> {
-        if words.len() == 1 && words[0].as_str() == "--help" {
-            return Command::Help;
-        }
-        if words.len() != 3 {
-            return Command::Unclear;
-        }
-        let kind = match words[0].as_str() {
+    // The command of the words after the program's name; nothing where they are no command.
+    pub fn parse(words: &'a [String]) -> Option<Command<'a>> {
+        let (kind, rules, file) = match words {
+            [word] if word.as_str() == "--help" => return Some(Command::Help),
+            [kind, rules, file] => (kind.as_str(), rules.as_str(), file.as_str()),
+            _ => return None,
+        };
+        let kind = match kind {
             "table" => Kind::Table,
             "way" => Kind::Way,
-            _ => return Command::Unclear,
+            _ => return None,
         };
-        Command::Check {
-            kind,
-            rules: words[1].as_str(),
-            file: words[2].as_str(),
-        }
+        Some(Command::Check { kind, rules, file })
     }
 }

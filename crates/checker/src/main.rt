@@ -4,6 +4,8 @@
 mod command;
 mod judged;
 
+use cli::failure::Failure;
+use cli::{MOST_REASONS, Program};
 use command::{Command, Kind};
 use game::rules::MOST_FILE;
 use judged::judge;
@@ -19,37 +21,37 @@ It prints 'accepted, known N' with the number of states that are known, or 'refu
   9       the counterstrategy does not hold together: the first state with a faulty row
   10      a start that it does not know: its number, from 0 on";
 
-// The most bytes of a table: a row of 4 bytes and an answer to each of 64 moves, for each of 4096 states and 8 goals. A
-// counterstrategy has fewer.
-const MOST_REASONS: u64 = 8 * 4096 * (4 + 64);
+struct Checker;
 
-// What the command line asks for.
-fn work(rt: &HostRuntime) -> anyhow::Result<()> {
-    let words = cli::words(rt)?;
-    match Command::of(&words) {
-        Command::Help => {
-            rt.println(HELP)?;
-            Ok(())
+impl Program for Checker {
+    const NAME: &'static str = "check";
+
+    fn work<'w>(rt: &HostRuntime, words: &'w [String]) -> Result<(), Failure<'w>> {
+        match Command::parse(words) {
+            Some(Command::Help) => Ok(rt.println(HELP)?),
+            Some(Command::Check { kind, rules, file }) => check(rt, kind, rules, file),
+            None => Err(Failure::Misused {
+                program: Self::NAME,
+                usage: USAGE,
+            }),
         }
-        Command::Unclear => cli::misused(rt, "check", USAGE),
-        Command::Check { kind, rules, file } => check(rt, kind, rules, file),
     }
 }
 
 fn main(rt: HostRuntime) -> ExitCode {
-    cli::ending(work(&rt))
+    cli::run::<Checker>(&rt)
 }
 
 // Judges one file for the rules in another, and prints the verdict.
-fn check(rt: &HostRuntime, kind: Kind, rules: &str, file: &str) -> anyhow::Result<()> {
-    let rules = cli::load(rt, "check", rules, MOST_FILE)?;
-    let file = cli::load(rt, "check", file, MOST_REASONS)?;
-    match judge(kind, rules.as_slice(), file.as_slice()) {
-        Ok(accepted) => {
-            let known = accepted.known;
-            println!(rt; "accepted, known {known}")?;
-            Ok(())
-        }
-        Err(refusal) => cli::refused(rt, refusal),
-    }
+fn check<'a>(
+    rt: &HostRuntime,
+    kind: Kind,
+    rules: &'a str,
+    file: &'a str,
+) -> Result<(), Failure<'a>> {
+    let rules = cli::load(rt, rules, MOST_FILE)?;
+    let file = cli::load(rt, file, MOST_REASONS)?;
+    let accepted = judge(kind, rules.as_slice(), file.as_slice())?;
+    println!(rt; "accepted, known {}", accepted.known)?;
+    Ok(())
 }

@@ -1,15 +1,53 @@
-// What the programs share: their arguments, files read up to a limit and written whole, and the ways to end badly.
+// What the programs share: their arguments, files read up to a limit and written whole, and how they end.
 #![tactic(auto)]
 
-ghost use Rattle.std.specs.Prelude.{◌≡◌, true, is_ok, is_err, if◌then◌else◌};
+ghost use Rattle.std.specs.Prelude.{◌≡◌, ◌≤◌, is_ok, IfErr, if◌then◌else◌};
 ghost use Rattle.std.specs.Process.{exit_status};
 
-use anyhow::anyhow;
-use game::refusal::Refusal;
+pub mod failure;
+
+use failure::Failure;
 use std::fs::File;
 use std::io::{Read, Write};
 use std::process::ExitCode;
 use std::{env, fs, io};
+
+// The most bytes of a table: a row of 4 bytes and an answer to each of 64 moves, for each of 4096 states and 8 goals. A
+// counterstrategy has fewer.
+pub const MOST_REASONS: u64 = 8 * 4096 * (4 + 64);
+
+// A program: its name, and its work on the words after its name.
+pub trait Program {
+    const NAME: &'static str;
+
+    fn work<'w>(rt: &HostRuntime, words: &'w [String]) -> Result<(), Failure<'w>>;
+}
+
+// Runs a program up to its end: with status 0, or 1 where its work failed.
+pub fn run<P: Program>(rt: &HostRuntime) -> ExitCode
+    ensures { exit_status result ≤ 1 }
+{
+    match words(rt) {
+        Ok(words) => ending(rt, P::NAME, P::work(rt, &words)),
+        Err(error) => ending(rt, P::NAME, Err(Failure::Io(error))),
+    }
+}
+
+// How a program ends, and what it says then: a refusal on standard output; on standard error wrong usage, and what else
+// somebody can set right. What else ended the work (closed output, want of memory) is not told.
+pub fn ending(rt: &HostRuntime, program: &str, outcome: Result<(), Failure<'_>>) -> ExitCode
+    ensures { exit_status result ≡ (if is_ok outcome.entry then 0 else 1) }
+{
+    let Err(failure) = outcome else {
+        return ExitCode::SUCCESS;
+    };
+    let _ = match failure {
+        Failure::Refused(_) => println!(rt; "{failure}"),
+        Failure::Io(_) | Failure::Memory(_) => Ok(()),
+        _ => eprintln!(rt; "{program}: {failure}"),
+    };
+    ExitCode::FAILURE
+}
 
 // The arguments after the program's own name.
 pub fn words(rt: &HostRuntime) -> io::Result<Vec<String>> {
@@ -29,17 +67,11 @@ pub fn read_up_to(rt: &HostRuntime, path: &str, most: u64) -> io::Result<Vec<u8>
     Ok(bytes)
 }
 
-// The same, and where it fails a line that says which file and what to do.
-pub fn load(rt: &HostRuntime, program: &str, path: &str, most: u64) -> anyhow::Result<Vec<u8>> {
-    match read_up_to(rt, path, most) {
-        Ok(bytes) => Ok(bytes),
-        Err(error) => {
-            eprintln!(rt;
-                "{program}: cannot read {path}: {error}; name a file that exists and may be read"
-            )?;
-            Err(anyhow!("unreadable"))
-        }
-    }
+// The same, with a failure that names the file.
+pub fn load<'a>(rt: &HostRuntime, path: &'a str, most: u64) -> Result<Vec<u8>, Failure<'a>>
+    ensures { IfErr result (λ failure. (error : _) × (failure ≡ Failure.Unreadable path.entry error)) }
+{
+    read_up_to(rt, path, most).map_err(|error| Failure::Unreadable { path, error })
 }
 
 // Writes the bytes under the name `part`, which then becomes the file's own.
@@ -60,44 +92,9 @@ pub fn save_whole(rt: &HostRuntime, path: &str, bytes: &[u8]) -> io::Result<()> 
     done
 }
 
-// The same, and where it fails a line that says which file and what to do.
-pub fn save(rt: &HostRuntime, program: &str, path: &str, bytes: &[u8]) -> anyhow::Result<()> {
-    match save_whole(rt, path, bytes) {
-        Ok(()) => Ok(()),
-        Err(error) => {
-            eprintln!(rt;
-                "{program}: cannot write {path}: {error}; name a file in a folder that may be written"
-            )?;
-            Err(anyhow!("unwritable"))
-        }
-    }
-}
-
-// Wrong usage: a line on standard error that says what to write.
-pub fn misused(rt: &HostRuntime, program: &str, usage: &str) -> anyhow::Result<()>
-    ensures { is_err result ≡ true }
+// The same, with a failure that names the file.
+pub fn save<'a>(rt: &HostRuntime, path: &'a str, bytes: &[u8]) -> Result<(), Failure<'a>>
+    ensures { IfErr result (λ failure. (error : _) × (failure ≡ Failure.Unwritable path.entry error)) }
 {
-    eprintln!(rt; "{program}: write {usage}; {program} --help says more")?;
-    Err(anyhow!("usage"))
-}
-
-// A refusal is printed by its number and place, and ends the program with status 1.
-pub fn refused(rt: &HostRuntime, refusal: Refusal) -> anyhow::Result<()>
-    ensures { is_err result ≡ true }
-{
-    let number = refusal.number();
-    let place = refusal.place();
-    println!(rt; "refused {number} at {place}")?;
-    Err(anyhow!("refused"))
-}
-
-// How a program ends: with status 0, or 1 where its work failed. Wrong usage, a refusal and a file that cannot be read or
-// written were told where they came up, so nothing more is printed.
-pub fn ending(outcome: anyhow::Result<()>) -> ExitCode
-    ensures { exit_status result ≡ (if is_ok outcome then 0 else 1) }
-{
-    match outcome {
-        Ok(()) => ExitCode::SUCCESS,
-        Err(_) => ExitCode::FAILURE,
-    }
+    save_whole(rt, path, bytes).map_err(|error| Failure::Unwritable { path, error })
 }

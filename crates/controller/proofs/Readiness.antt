@@ -2,7 +2,7 @@
 --   some_goal  where a state is known for goal 0 there is a goal
 --   whole      bytes that are as many as they should be are read
 --   ready      from what was accepted to what is promised
-use Rattle.std.proofs.Common.{◌≡◌, ℕ, ◌*◌, ◌<◌, Bool, true, false, cond, ◌&&◌, ltb, List, [], length, get_or, Some, None, sym, refl, ap, ◌∙◌, subst, arith, ltb-true, le-ltb}
+use Rattle.std.proofs.Common.{◌≡◌, ℕ, ◌<◌, Bool, true, false, cond, ◌&&◌, ltb, List, [], length, get_or, Some, None, sym, refl, ap, ◌∙◌, subst, arith, ltb-true, le-ltb}
 use Rattle.game.specs.declared.refusal.Refusal.{Refusal}
 use Rattle.game.specs.declared.rules.Rules.{Rules}
 use Rattle.game.specs.Plan.{PlanHolds}
@@ -12,8 +12,7 @@ use Rattle.game.specs.Content.{content}
 use Rattle.game.specs.Meaning.{game_of}
 use Rattle.game.proofs.Appending.{starts_count}
 use Rattle.rows.specs.declared.row.Grid.{Grid}
-use Rattle.rows.specs.Rows.{pair_at, row_at, missized}
-use Rattle.rows.proofs.Fitting.{nth_start}
+use Rattle.rows.specs.Rows.{row_at, missized}
 use Rattle.table.specs.Plans.{Sheet, sheet_of, sheet_for, plan_of, known_in, grid_for}
 use Rattle.table.specs.Sound.{Accepts}
 use Rattle.controller.specs.declared.Controller.{Controller}
@@ -36,13 +35,12 @@ whole n bs e l h =
 
 pub ready : (rules : Rules) (bs : List ℕ) (k state : ℕ) (c : Controller) → k < rules.starts.count →
     Accepts (content rules) bs → c.rules ≡ rules → sheet_of c.table ≡ sheet_for (content rules) bs →
-    state ≡ pair_at rules.starts.bytes.now (2 * k) → place_in c ≡ now_after (game_in c) (plan_in c) state [] →
+    state ≡ get_or (content rules).starts k 0 → place_in c ≡ now_after (game_in c) (plan_in c) state [] →
     Ready rules bs k c
 unfolding now_after
 ready rules bs k state c some accepts same sheet at begins =
     let s : ℕ = get_or (content rules).starts k 0 in
-    let start : state ≡ s = at ∙ sym (nth_start rules.starts.count k rules.starts.bytes.now some) in
-    let place : place_in c ≡ now_after (game_in c) (plan_in c) s [] = begins ∙ ap (λ t. now_after (game_in c) (plan_in c) t []) start in
+    let place : place_in c ≡ now_after (game_in c) (plan_in c) s [] = begins ∙ ap (λ t. now_after (game_in c) (plan_in c) t []) at in
     let known = accepts.starts k (omega (arith, starts_count rules.starts.count rules.starts.bytes.now)) in
     let goals : 0 < length (content c.rules).goals = subst (λ (q : Rules). 0 < length (content q).goals) (sym same) (some_goal (grid_for (content rules)) bs s known) in
     record {

@@ -1,26 +1,28 @@
 -- The goal gone for after a state.
---   stays         where the goal does not hold, it is still gone for
---   starts_again  where the last one holds, the first one is
---   turns         where another one holds, the next one is
---   none          a goal that there is not holds nowhere
-use Rattle.std.proofs.Common.{◌≡◌, ℕ, suc, ◌+◌, ◌≤◌, true, false, eqb, List, [], length, get_or, ap, add-one}
+--   stays   where the goal does not hold, it is still gone for
+--   turns   where it holds, the next one around is
+--   there   a goal that holds somewhere is one of those that there are
+use Rattle.std.proofs.Common.{◌≡◌, ℕ, ◌<◌, Bool, true, false, ltb, List, [], length, get_or, sym, refl, ap, ◌∙◌, ltb-true, ltb-false}
 use Rattle.std.proofs.lemmas.List.{get_or_past}
 use Rattle.formula.specs.Reading.{forest}
-use Rattle.game.specs.Game.{Game, goal_after}
+use Rattle.game.specs.Game.{Game, goal_after, next_around}
 use Rattle.game.specs.Meaning.{value_of}
 
 pub stays : (g : Game) (j s : ℕ) → g.goal j s ≡ false → j ≡ goal_after g j s
 unfolding goal_after
 stays g j s h = rw h
 
-pub starts_again : (g : Game) (j s : ℕ) → g.goal j s ≡ true → eqb (j + 1) g.goals ≡ true → 0 ≡ goal_after g j s
+pub turns : (g : Game) (j s n : ℕ) → g.goal j s ≡ true → n ≡ next_around g.goals j → n ≡ goal_after g j s
 unfolding goal_after
-starts_again g j s h e = let f : eqb (suc j) g.goals ≡ true = rw add-one at e in rw (h, f)
+turns g j s n h next = rw h next
 
-pub turns : (g : Game) (j s : ℕ) → g.goal j s ≡ true → eqb (j + 1) g.goals ≡ false → j + 1 ≡ goal_after g j s
-unfolding goal_after
-turns g j s h e = let f : eqb (suc j) g.goals ≡ false = rw add-one at e in rw (h, f, add-one)
-
-pub none : (goals : List (List ℕ)) (j s : ℕ) → length goals ≤ j → value_of (get_or goals j []) s 0 0 ≡ false
+there_if : (goals : List (List ℕ)) (j s : ℕ) (b : Bool) → ltb j (length goals) ≡ b →
+    value_of (get_or goals j []) s 0 0 ≡ true → j < length goals
 unfolding forest
-none goals j s h = ap (λ f. value_of f s 0 0) (get_or_past goals j [] h)
+there_if goals j s true e h = ltb-true j (length goals) e
+there_if goals j s false e h =
+    let none : value_of (get_or goals j []) s 0 0 ≡ false = ap (λ f. value_of f s 0 0) (get_or_past goals j [] (ltb-false j (length goals) e)) in
+    let z : true ≡ false = sym h ∙ none in cc
+
+pub there : (goals : List (List ℕ)) (j s : ℕ) → value_of (get_or goals j []) s 0 0 ≡ true → j < length goals
+there goals j s h = there_if goals j s (ltb j (length goals)) refl h

@@ -5,7 +5,6 @@ ghost use Rattle.controller.specs.Ready.{Readies};
 use crate::Controller;
 use game::refusal::Refusal;
 use game::rules::Rules;
-use rows::row::Row;
 use table::{Table, accept};
 
 impl<'a> Controller<'a> {
@@ -16,10 +15,7 @@ impl<'a> Controller<'a> {
     {
         accept(&rules, bytes)?;
         let table = Table::read(&rules, bytes)?;
-        let state = Row {
-            bytes: rules.starts.bytes,
-        }
-        .pair(2 * start as u16);
+        let state = rules.starts.get(start);
         Ok(Controller::new(rules, table, state))
     }
 }

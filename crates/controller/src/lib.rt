@@ -49,12 +49,11 @@ impl<'a> Controller<'a> {
     fn goal_after(&self) -> u8
         ensures { result ≡ goal_after (game_in self.now) self.now.goal self.now.state }
     {
-        let goals = self.rules.goals.count;
-        if self.goal >= goals || !self.rules.goal_holds(self.goal, self.state) {
-            return self.goal;
+        if self.rules.goal_holds(self.goal, self.state) {
+            self.rules.next_goal(self.goal)
+        } else {
+            self.goal
         }
-        let next = self.goal + 1;
-        if next == goals { 0 } else { next }
     }
 
     // The table's answer to a move; where the move is refused, nothing changes, and the next one may be tried.

@@ -1,18 +1,20 @@
 -- The tests of the code, lane by lane and by what it keeps of a row, are those of the definitions.
-use Rattle.std.proofs.Common.{◌≡◌, ℕ, ◌+◌, ◌*◌, ◌^◌, ◌<◌, ◌≤◌, Bool, true, false, cond, not, ◌&&◌, ◌||◌, eqb, ltb, sym, refl, ap, ◌∙◌, arith}
-use Rattle.std.proofs.lemmas.Bool.{lt-ltb, le-ltb, eqb-true}
+use Rattle.std.proofs.Common.{◌≡◌, ℕ, ◌+◌, ◌*◌, ◌^◌, ◌<◌, Bool, true, false, cond, not, ◌&&◌, ◌||◌, eqb, ltb, sym, refl, ap, ◌∙◌, arith}
+use Rattle.std.proofs.lemmas.Bool.{lt-ltb, and_right}
+use Rattle.std.specs.Bool.{then_some}
 use Rattle.std.proofs.lemmas.Bool.Decides.{nat_tests}
 use Rattle.game.specs.Game.{Game}
 use Rattle.game.specs.Counterstrategy.{Counterstrategy, kept}
 use Rattle.game.specs.Content.{Content}
 use Rattle.game.specs.Meaning.{value_of, game_of}
 use Rattle.game.specs.Finite.{implies, falls}
-use Rattle.rows.proofs.Failing.{under}
+use Rattle.rows.proofs.Failing.{under, and_assoc}
 use Rattle.rows.specs.Lanes.{lane_number}
 use Rattle.counter.specs.declared.check.Here.{Here}
 use Rattle.counter.specs.declared.check.Steps.{Steps}
 use Rattle.counter.specs.Sound.{answer_sound}
-use Rattle.counter.specs.Steps.{StandsFor, onward, StepsOf, step_by}
+use Rattle.counter.specs.declared.check.NextRank.TheVariants.{Any, Below, Same}
+use Rattle.counter.specs.Steps.{away, is_goal, may_be, StandsFor, onward, StepsOf, step_by}
 
 -- a lane of the answer rule's values, within the guards of the game
 pub allowed_lane : (c : Content) (s e r : ℕ) (v : Bool) → s < 2 ^ c.state → e < 2 ^ c.moves → r < 2 ^ c.answer →
@@ -24,39 +26,40 @@ allowed_lane c s e r v a b d h =
 pub after_lane : (c : Content) (s e r n : ℕ) → n ≡ (game_of c).after s e (64 * 0 + r) → n ≡ (game_of c).after s e r
 after_lane c s e r n h = let same : 64 * 0 + r ≡ r = omega arith in h ∙ ap (λ y. (game_of c).after s e y) same
 
--- a known row whose goal is in range, or not
-pub known_sound : (b v w n m : ℕ) (x y : Bool) → eqb b 1 ≡ true → w ≡ v → m ≡ n → w < n → x ≡ y →
-    x ≡ ((ltb b 2 && implies (eqb b 1) (ltb v m)) && implies (eqb b 1) y)
-known_sound b v w n m x y k p e h q = let one : b ≡ 1 = eqb-true b 1 k in rw (one, lt-ltb v m (omega arith)) q
-
-pub far_unsound : (b v w n m : ℕ) (y : Bool) → eqb b 1 ≡ true → w ≡ v → m ≡ n → n ≤ w →
-    ltb w n ≡ ((ltb b 2 && implies (eqb b 1) (ltb v m)) && implies (eqb b 1) y)
-far_unsound b v w n m y k q e h = let one : b ≡ 1 = eqb-true b 1 k in rw (one, le-ltb v m (omega arith), le-ltb w n h) refl
-
 -- the test of a step's end in the order of the code
-regroup : (a b c d x y z : Bool) → y ≡ z → (a || (b && (c && ((d && x) && y)))) ≡ (a || ((((b && c) && d) && x) && z))
-regroup true b c d x y z e = refl
-regroup false true true true true y z e = e
-regroup false true true true false y z e = refl
-regroup false true true false x y z e = refl
-regroup false true false d x y z e = refl
-regroup false false c d x y z e = refl
+goal_is : (b : Bool) (w v : ℕ) → is_goal (then_some b w) v ≡ (eqb v w && b)
+goal_is true w v = by (eqb v w)
+  where
+    by : (x : Bool) → x ≡ (x && true)
+    by true = refl
+    by false = refl
+goal_is false w v = sym (and_right (eqb v w) false refl)
 
-turn : (k p q x y : Bool) → q ≡ not p → (k || cond p x y) ≡ ((k || ((not k && p) && x)) || (q && y))
-turn true p q x y e = refl
-turn false true q true y e = refl
-turn false true q false y e = rw e refl
-turn false false q x y e = rw e refl
+regroup : (a b c d x y z u : Bool) → z ≡ (c && (d && x)) → y ≡ u → (a || (b && (z && y))) ≡ (a || ((((b && c) && d) && x) && u))
+regroup true b c d x y z u e f = refl
+regroup false true c d x y z u e f = rw (e, f) (ap (λ v. v && u) (and_assoc c d x))
+regroup false false c d x y z u e f = refl
+
+due_is : (k p q : Bool) (m n : ℕ) → q ≡ not p →
+    may_be (cond k Any (cond p (Below m) (Same m))) n ≡ ((k || ((not k && p) && ltb n m)) || (q && eqb n m))
+due_is true p q m n e = refl
+due_is false true q m n e = rw e (by (ltb n m))
+  where
+    by : (x : Bool) → x ≡ (x || false)
+    by true = refl
+    by false = refl
+due_is false false q m n e = rw e refl
 
 none_or_some : (n : ℕ) → eqb n 0 ≡ not (ltb 0 n)
 none_or_some n = grind (arith, nat_tests)
 
 onward_is : (g : Game) (c : Counterstrategy) (i s t : ℕ) (h : Here) → StandsFor g c i s h → onward c h t ≡ (c.known t && falls g c i s t)
 onward_is g c i s t h for =
-    rw (for.promise, for.layer, for.avoid, for.far, for.holds, for.promised, for.rank)
+    rw (for.promise, for.layer, for.far, for.rank)
     (ap (λ x. c.known t && x)
-    (regroup (ltb (c.layer t) (c.layer s)) (eqb (c.layer t) (c.layer s)) (eqb (c.avoid t) (c.avoid s)) (ltb (c.avoid s) g.goals) (not (g.goal (c.avoid s) s)) _ _
-    (turn (kept g i s) (ltb 0 g.promises) (eqb g.promises 0) (ltb (c.rank i t) (c.rank i s)) (eqb (c.rank i t) (c.rank i s)) (none_or_some g.promises))))
+    (regroup (ltb (c.layer t) (c.layer s)) (eqb (c.layer t) (c.layer s)) (eqb (c.avoid t) (c.avoid s)) (ltb (c.avoid s) g.goals) (not (g.goal (c.avoid s) s)) _ _ _
+    (goal_is (away g (c.avoid s) s) (c.avoid s) (c.avoid t))
+    (due_is (kept g i s) (ltb 0 g.promises) (eqb g.promises 0) (c.rank i s) (c.rank i t) (none_or_some g.promises))))
 
 -- the test of a step, by the move e of the row
 pub step_is : (c : Content) (w : Counterstrategy) (i s a : ℕ) (h : Here) (t : Steps) (e : ℕ) → StandsFor (game_of c) w i s h → e ≡ w.move i s →

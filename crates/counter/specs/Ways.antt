@@ -2,6 +2,7 @@
 --   grid_for            the grid of the rows of a counterstrategy for the rules
 --   known_in, layer_in, avoid_in, move_in, rank_in  what a row holds
 --   counterstrategy_of  the counterstrategy of the rows
+--   way_of              that of rows in memory
 --   Reads               the outcome of reading a way
 use Rattle.std.specs.Prelude.{◌≡◌, ℕ, ◌+◌, ◌*◌, ◌^◌, Bool, List, length, Some, None, Ok, Err, Result, ◌==◌, slice_index}
 use Rattle.game.specs.declared.refusal.Refusal.{Refusal}
@@ -42,6 +43,10 @@ counterstrategy_of g bs =
       move = λ i s. move_in (row_at g bs 0 s) i;
       rank = λ i s. rank_in (row_at g bs 0 s) i;
     }
+
+-- the counterstrategy in memory
+abbrev pub way_of : Way → Counterstrategy
+way_of w = counterstrategy_of w.rows.grid w.rows.bytes.now
 
 -- the counterstrategy that fills the bytes, or why they are none
 abbrev pub Reads : Content → List ℕ → Result Way Refusal → Type 0

@@ -8,9 +8,8 @@ use std::alloc::AllocError;
 pub fn write_head(out: &mut Vec<u8>, known: bool, layer: u16, avoid: u8) -> Result<(), AllocError>
     ensures { is_ok result ≡ true → out.new.items ≡ out.old.items ++ head_bytes known layer avoid }
 {
-    out.push(if known { 1 } else { 0 })?;
-    out.push((layer % 256) as u8)?;
-    out.push((layer / 256) as u8)?;
+    out.push(u8::from(known))?;
+    out.extend_from_slice(&layer.to_le_bytes())?;
     out.push(avoid)?;
     Ok(())
 }
@@ -20,21 +19,17 @@ pub fn write_turn(out: &mut Vec<u8>, moved: u8, rank: u16) -> Result<(), AllocEr
     ensures { is_ok result ≡ true → out.new.items ≡ out.old.items ++ turn_bytes moved rank }
 {
     out.push(moved)?;
-    out.push((rank % 256) as u8)?;
-    out.push((rank / 256) as u8)?;
-    Ok(())
+    out.extend_from_slice(&rank.to_le_bytes())
 }
 
 // A counterstrategy that is written is read as it was.
-pub fn way_written() -> u8
+#[tactic(auto, using(crate::proofs::Inverse::way_written))]
+pub fn way_written()
     ensures { WayWritten }
-{
-    0
-}
+{}
 
 // A counterstrategy that is read is written as it was.
-pub fn way_read() -> u8
+#[tactic(auto, using(crate::proofs::Inverse::way_read))]
+pub fn way_read()
     ensures { WayRead }
-{
-    0
-}
+{}

@@ -4,10 +4,9 @@
 ghost use Rattle.std.specs.Prelude.{◌≡◌, true, is_ok, Decides};
 ghost use Rattle.game.specs.Content.{content};
 ghost use Rattle.game.specs.Counterstrategy.{turns};
-ghost use Rattle.counter.specs.Ways.{grid_for, counterstrategy_of, Reads};
+ghost use Rattle.counter.specs.Ways.{grid_for, way_of, Reads};
 ghost use Rattle.counter.specs.Sound.{way_verdict, Accepts, Beats};
 
-mod answers;
 mod check;
 pub mod laws;
 
@@ -28,14 +27,11 @@ pub struct Way<'a> {
 pub(crate) fn turn_count(rules: &Rules) -> u8
     ensures { result ≡ turns rules.now.promises.count }
 {
-    if rules.promises.count == 0 {
-        1
-    } else {
-        rules.promises.count
-    }
+    rules.promises.count.max(1)
 }
 
 // The grid of the rows of a counterstrategy for the rules.
+#[tactic(auto, using(game::proofs::Appending::formulas_count))]
 fn grid(rules: &Rules) -> Grid
     ensures { result ≡ grid_for (content rules.now) }
 {
@@ -57,28 +53,28 @@ impl<'a> Way<'a> {
 
     // Whether the counterstrategy knows what to do in the state.
     pub fn known(self, state: u16) -> bool
-        ensures { result ≡ (counterstrategy_of self.entry.rows.grid self.entry.rows.bytes.now).known state }
+        ensures { result ≡ (way_of self.entry).known state }
     {
         self.rows.row(0, state as u32).known()
     }
 
     // Its layer.
     pub fn layer(self, state: u16) -> u16
-        ensures { result ≡ (counterstrategy_of self.entry.rows.grid self.entry.rows.bytes.now).layer state }
+        ensures { result ≡ (way_of self.entry).layer state }
     {
         self.rows.row(0, state as u32).pair(1)
     }
 
     // The goal that is kept away from.
     pub fn avoid(self, state: u16) -> u8
-        ensures { result ≡ (counterstrategy_of self.entry.rows.grid self.entry.rows.bytes.now).avoid state }
+        ensures { result ≡ (way_of self.entry).avoid state }
     {
         self.rows.row(0, state as u32).byte(3)
     }
 
     // The environment's move, going for a promise.
     pub fn moved(self, promise: u8, state: u16) -> u8
-        ensures { result ≡ (counterstrategy_of self.entry.rows.grid self.entry.rows.bytes.now).move promise state }
+        ensures { result ≡ (way_of self.entry).move promise state }
     {
         self.rows
             .row(0, state as u32)
@@ -87,14 +83,14 @@ impl<'a> Way<'a> {
 
     // How far that promise is.
     pub fn rank(self, promise: u8, state: u16) -> u16
-        ensures { result ≡ (counterstrategy_of self.entry.rows.grid self.entry.rows.bytes.now).rank promise state }
+        ensures { result ≡ (way_of self.entry).rank promise state }
     {
         self.rows.row(0, state as u32).pair(5 + 3 * promise as u16)
     }
 }
 
 // Accepts the bytes as a counterstrategy that wins the game of the rules for the environment from every start, or names
-// their first fault.
+// their first fault. It is judged as a table is; what acceptance promises is its own.
 pub fn accept<'a>(rules: &Rules<'a>, bytes: &'a [u8]) -> Result<Accepted, Refusal>
     ensures verdict { result ≡ way_verdict (content rules.now) bytes.now }
     ensures exactly { Decides (is_ok result) (Accepts (content rules.now) bytes.now) }

@@ -169,7 +169,7 @@ hold_symbol sc Unknown b m bs fs e p h = absurd (both_ways false refl p)
 
 -- a fault is no success
 pub no_fault : (f : Fault) → ◌≡◌ {A = Result (Unit {0}) Fault} (Err f) (Ok tt) → ⊥
-no_fault f e = let z : ◌≡◌ {A = ℕ} 0 1 = cc in omega arith
+no_fault f e = cc
 
 -- a symbol that the scan passes, and what it says of the rest
 passed : {X : Type 0} (p : Bool) (r : Result (Unit {0}) Fault) (f : Fault) → (p ≡ true → r ≡ Ok tt → X) → cond p r (Err f) ≡ Ok tt → X

@@ -1,5 +1,4 @@
 pub mod Rest
-pub mod Scan
 pub mod BitLaws
 pub mod Masks
 pub mod Planted

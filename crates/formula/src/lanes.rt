@@ -3,42 +3,80 @@ ghost use Rattle.std.specs.Prelude.{◌≡◌, ℕ, ◌+◌, ◌*◌};
 ghost use Rattle.formula.specs.Bits.{bit};
 ghost use Rattle.formula.specs.Values.{Spread};
 
-// Which step each lane is for, and the words of its bits.
-pub trait Lanes {
-    // the state before the step of lane l, its move and its answer
-    ghost states: { Self → ℕ → ℕ };
+use crate::bits::has_bit;
 
-    ghost moves: { Self → ℕ → ℕ };
+// The numbers of one kind in the lanes: of the states, of the moves or of the answers.
+pub trait Numbers {
+    // the number of lane l
+    ghost number: { Self → ℕ → ℕ };
 
-    ghost answers: { Self → ℕ → ℕ };
-
-    fn state_bit(&self, i: u8) -> u64
-        ensures { Spread result (λ l. bit (states self.now l) i) };
-
-    fn move_bit(&self, i: u8) -> u64
-        ensures { Spread result (λ l. bit (moves self.now l) i) };
-
-    fn answer_bit(&self, i: u8) -> u64
-        ensures { Spread result (λ l. bit (answers self.now l) i) };
+    // The word of their bits i.
+    fn bit(&self, i: u8) -> u64
+        ensures { Spread result (λ l. bit (number self.now l) i) };
 }
 
-// One step, the same in every lane.
+// One number, the same in every lane.
 #[derive(Clone, Copy)]
-pub struct Step {
-    pub state: u16,
-    pub moved: u8,
-    pub answer: u8,
+pub struct Same {
+    pub number: u16,
 }
 
-// The steps from the 64 neighbouring states 64 * block + l, at one move and one answer.
+// The 64 neighbouring numbers of a block: 64 * block + l in lane l.
 #[derive(Clone, Copy)]
-pub struct Block {
+pub struct Neighbours {
     pub block: u16,
-    pub moved: u8,
-    pub answer: u8,
 }
 
-// Bits 0 to 5 of the states of a block are those of the lane's own number.
+// The steps of the lanes: from which states, at which moves and answers.
+#[derive(Clone, Copy)]
+pub struct Steps<S, M, A> {
+    pub states: S,
+    pub moves: M,
+    pub answers: A,
+}
+
+impl<S> Steps<S, Same, Same> {
+    // The steps from these states, all at one move and one answer.
+    pub fn from_states(states: S, moved: u8, answer: u8) -> Steps<S, Same, Same>
+        ensures states { result.states ≡ states }
+        ensures moved { result.moves.number ≡ moved }
+        ensures answer { result.answers.number ≡ answer }
+    {
+        Steps {
+            states,
+            moves: Same {
+                number: moved as u16,
+            },
+            answers: Same {
+                number: answer as u16,
+            },
+        }
+    }
+}
+
+impl Steps<Same, Same, Same> {
+    // One step, the same in every lane.
+    pub fn one(state: u16, moved: u8, answer: u8) -> Steps<Same, Same, Same>
+        ensures state { result.states.number ≡ state }
+        ensures moved { result.moves.number ≡ moved }
+        ensures answer { result.answers.number ≡ answer }
+    {
+        Steps::from_states(Same { number: state }, moved, answer)
+    }
+}
+
+impl Steps<Neighbours, Same, Same> {
+    // The steps from the 64 states of a block.
+    pub fn block(block: u16, moved: u8, answer: u8) -> Steps<Neighbours, Same, Same>
+        ensures block { result.states.block ≡ block }
+        ensures moved { result.moves.number ≡ moved }
+        ensures answer { result.answers.number ≡ answer }
+    {
+        Steps::from_states(Neighbours { block }, moved, answer)
+    }
+}
+
+// Bits 0 to 5 of the numbers of a block are those of the lane's own number.
 const OF_LANE: [u64; 6] = [
     0xaaaa_aaaa_aaaa_aaaa,
     0xcccc_cccc_cccc_cccc,
@@ -48,74 +86,30 @@ const OF_LANE: [u64; 6] = [
     0xffff_ffff_0000_0000,
 ];
 
-// Bit i of a number.
-fn bit_of(n: u16, i: u8) -> bool
-    ensures { result ≡ bit n i }
-{
-    i < 16 && (n >> i) % 2 == 1
-}
-
-// The same value in every lane.
-fn spread(value: bool) -> u64
+// The same value in every lane. An if is plainer here than u64::MAX * u64::from(value).
+pub(crate) fn spread(value: bool) -> u64
     ensures { Spread result (λ _. value) }
 {
     if value { u64::MAX } else { 0 }
 }
 
-// Bit i of one number, in every lane.
-pub fn same_bit(n: u16, i: u8) -> u64
-    ensures { Spread result (λ _. bit n i) }
-{
-    spread(bit_of(n, i))
-}
+impl Numbers for Same {
+    ghost number = { λ s _. s.number };
 
-// Bit i of the number 64 * block + l, in lane l.
-pub fn block_bit(block: u16, i: u8) -> u64
-    ensures { Spread result (λ l. bit (64 * block + l) i) }
-{
-    if i < 6 {
-        OF_LANE[i as usize]
-    } else {
-        same_bit(block, i - 6)
+    fn bit(&self, i: u8) -> u64 {
+        spread(has_bit(self.number as u64, i as usize))
     }
 }
 
-impl Lanes for Step {
-    ghost states = { λ s _. s.state };
+impl Numbers for Neighbours {
+    ghost number = { λ b l. 64 * b.block + l };
 
-    ghost moves = { λ s _. s.moved };
-
-    ghost answers = { λ s _. s.answer };
-
-    fn state_bit(&self, i: u8) -> u64 {
-        same_bit(self.state, i)
-    }
-
-    fn move_bit(&self, i: u8) -> u64 {
-        same_bit(self.moved as u16, i)
-    }
-
-    fn answer_bit(&self, i: u8) -> u64 {
-        same_bit(self.answer as u16, i)
-    }
-}
-
-impl Lanes for Block {
-    ghost states = { λ b l. 64 * b.block + l };
-
-    ghost moves = { λ b _. b.moved };
-
-    ghost answers = { λ b _. b.answer };
-
-    fn state_bit(&self, i: u8) -> u64 {
-        block_bit(self.block, i)
-    }
-
-    fn move_bit(&self, i: u8) -> u64 {
-        same_bit(self.moved as u16, i)
-    }
-
-    fn answer_bit(&self, i: u8) -> u64 {
-        same_bit(self.answer as u16, i)
+    fn bit(&self, i: u8) -> u64 {
+        if i < 6 {
+            OF_LANE[i as usize]
+        } else {
+            let block = Same { number: self.block };
+            block.bit(i - 6)
+        }
     }
 }

@@ -7,6 +7,7 @@ ghost use Rattle.formula.specs.Reading.{formula_of};
 ghost use Rattle.formula.specs.Values.{Values};
 ghost use Rattle.formula.specs.Laws.{Reads, Formed};
 
+pub mod bits;
 pub mod lanes;
 pub mod reading;
 pub mod scope;
@@ -14,7 +15,8 @@ pub mod symbol;
 pub mod theorems;
 mod values;
 
-use lanes::{Lanes, Step};
+use bits::has_bit;
+use lanes::{Numbers, Steps};
 use reading::Fault;
 use scope::Scope;
 use std::alloc::AllocError;
@@ -45,10 +47,10 @@ impl<'a> Formula<'a> {
     }
 
     // The values in the steps of the lanes, one bit each.
-    pub fn values<L: Lanes>(self, lanes: &L) -> u64
-        ensures { Values (formula_of self.entry.bytes.now) (L.states lanes.now) (L.moves lanes.now) (L.answers lanes.now) result }
+    pub fn values<S: Numbers, M: Numbers, A: Numbers>(self, steps: &Steps<S, M, A>) -> u64
+        ensures { Values (formula_of self.entry.bytes.now) (S.number steps.now.states) (M.number steps.now.moves) (A.number steps.now.answers) result }
     {
-        let (word, _) = values::first(self.bytes, lanes);
+        let (word, _) = values::first(self.bytes, steps);
         word
     }
 
@@ -56,11 +58,6 @@ impl<'a> Formula<'a> {
     pub fn value(self, state: u16, moved: u8, answer: u8) -> bool
         ensures { result ≡ meaning (formula_of self.entry.bytes.now) state moved answer }
     {
-        let step = Step {
-            state,
-            moved,
-            answer,
-        };
-        self.values(&step) % 2 == 1
+        has_bit(self.values(&Steps::one(state, moved, answer)), 0)
     }
 }

@@ -35,19 +35,16 @@ fn operands(bytes: &[u8], at: usize, wanted: usize, scope: Scope) -> Result<(), 
     requires few { wanted ≤ at + 1 }
     ensures { result ≡ scan scope at wanted bytes.now }
 {
-    let [byte, rest @ ..] = bytes else {
-        return if wanted == 0 {
-            Ok(())
-        } else {
-            Err(Fault::Short)
-        };
-    };
-    if wanted == 0 {
-        return Err(Fault::Long);
+    match (bytes, wanted) {
+        ([], 0) => Ok(()),
+        ([], _) => Err(Fault::Short),
+        (_, 0) => Err(Fault::Long),
+        ([byte, rest @ ..], _) => {
+            let symbol = Symbol::from(*byte);
+            if !scope.permits(symbol) {
+                return Err(Fault::Symbol { at: at as u32 });
+            }
+            operands(rest, at + 1, wanted - 1 + symbol.arity(), scope)
+        }
     }
-    let symbol = Symbol::of(*byte);
-    if !scope.permits(symbol) {
-        return Err(Fault::Symbol { at: at as u32 });
-    }
-    operands(rest, at + 1, wanted - 1 + symbol.arity(), scope)
 }

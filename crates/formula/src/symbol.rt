@@ -13,14 +13,14 @@ pub enum Symbol {
     State(u8),
     Move(u8),
     Answer(u8),
+    // of every other byte: each byte has a symbol, since a row that was never read has a meaning too
     Unknown,
 }
 
-impl Symbol {
-    // The symbol that a byte stands for.
-    pub fn of(byte: u8) -> Symbol
-        ensures { result ≡ symbol_of byte }
-    {
+impl From<u8> for Symbol {
+    ghost from_gives = { λ byte symbol. symbol ≡ symbol_of byte };
+
+    fn from(byte: u8) -> Symbol {
         match byte {
             0 => Symbol::Constant(false),
             1 => Symbol::Constant(true),
@@ -34,7 +34,9 @@ impl Symbol {
             _ => Symbol::Unknown,
         }
     }
+}
 
+impl Symbol {
     // How many formulas follow as its operands.
     pub fn arity(self) -> usize
         ensures { result ≡ arity_of self }

@@ -2,15 +2,11 @@
 ghost use Rattle.formula.specs.Laws.{ReadWritten, WrittenRead};
 
 // What a formula writes is read as that formula.
-pub fn written_read() -> u8
+pub fn written_read()
     ensures { WrittenRead }
-{
-    0
-}
+{}
 
 // What was read writes the bytes that it was read from.
-pub fn read_written() -> u8
+pub fn read_written()
     ensures { ReadWritten }
-{
-    0
-}
+{}

@@ -1,19 +1,12 @@
 -- One step of the reader, as the code makes it.
-use Rattle.std.proofs.Common.{◌≡◌, ℕ, ◌-◌, ◌<◌, min, ltb, List, [], ◌∷◌, length, get_or, take, Ok, Err, sym, refl, ap, ◌∙◌, ⊎_elim, arith, take_all}
+use Rattle.std.proofs.Common.{◌≡◌, ℕ, ◌-◌, min, ltb, List, length, take, Err, sym, refl, ◌∙◌, ⊎_elim, arith, take_all}
 use lib.Seq.{take-length}
-use Rattle.std.specs.List.{between}
-use Rattle.std.proofs.lemmas.Bool.{cases_lt, lt-leb}
+use Rattle.std.proofs.lemmas.Bool.{cases_lt}
 use Rattle.formula.specs.declared.scope.Scope.{Scope}
 use Rattle.formula.specs.declared.reading.Fault.{Fault}
 use Rattle.formula.specs.Reading.{reading}
-use Rattle.formula.proofs.Rest.{rest_of}
 use Rattle.game.specs.declared.refusal.Refusal.{Refusal}
-use Rattle.game.specs.declared.refusal.Refusal.TheVariants.{Length}
 use Rattle.game.specs.Reading.{part, refused, read_byte, read_formula, judged, misread}
-
-pub byte_step : (whole : ℕ) (bs : List ℕ) → 0 < length bs → read_byte whole bs ≡ part (get_or bs 0 0) (between 1 (length bs) bs)
-byte_step whole [] h = absurd (omega arith)
-byte_step whole (b ∷ bs) h = ap (part b) (sym (rest_of b bs))
 
 -- what is taken of a row stops at its end
 pub take_capped : (n : ℕ) (xs : List ℕ) → take (min n (length xs)) xs ≡ take n xs
@@ -28,12 +21,6 @@ formula_step : (whole : ℕ) (sc : Scope) (bs rest front : List ℕ) (len : ℕ)
     front ≡ take (min len (length rest)) rest →
     read_formula whole sc bs ≡ judged whole (whole - length bs) len rest (reading sc front)
 formula_step whole sc bs rest front len b f = rw (b, f, take_capped len rest) refl
-
-pub formula_long : (whole : ℕ) (sc : Scope) (bs rest front : List ℕ) (len : ℕ) → read_byte whole bs ≡ part len rest →
-    front ≡ take (min len (length rest)) rest → reading sc front ≡ Ok tt → length rest < len →
-    read_formula whole sc bs ≡ refused (Length (whole - length bs))
-formula_long whole sc bs rest front len b f r h =
-    formula_step whole sc bs rest front len b f ∙ rw (r, lt-leb len (length rest) h) refl
 
 pub formula_fault : (whole whole' at : ℕ) (sc : Scope) (bs rest front : List ℕ) (len : ℕ) (e : Fault) (r : Refusal) →
     read_byte whole bs ≡ part len rest → whole' ≡ whole → at ≡ whole - length bs →

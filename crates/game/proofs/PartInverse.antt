@@ -10,10 +10,10 @@ use Rattle.formula.specs.declared.reading.Fault.{Fault}
 use Rattle.formula.specs.Reading.{reading}
 use Rattle.game.specs.declared.refusal.Refusal.{Refusal}
 use Rattle.game.specs.Content.{Sound, with_length, with_lengths, two_bytes}
-use Rattle.game.specs.Reading.{Step, part, refused, then, read_byte, read_width, read_count, judged, read_formula, many, read_group, read_start, read_start_group}
+use Rattle.game.specs.Reading.{Step, part, refused, then, read_byte, read_width, read_count, judged, read_formula, read_formulas, many, read_group, read_start, read_starts, read_start_group}
 use Rattle.game.specs.Laws.{Byte}
-use Rattle.game.proofs.Rows.{no_refusal}
-use Rattle.game.proofs.Whole.{went}
+use Rattle.game.specs.First.{no_refusal}
+use Rattle.game.proofs.Rows.{went}
 
 -- what a step read from the bytes bs: it has P, and its bytes before those that are left are bs
 pub record Exact {A : Type 0} (bytes_of : A → List ℕ) (P : A → Type 0) (bs : List ℕ) (a : A) (rest : List ℕ) : Type 0 where
@@ -165,11 +165,11 @@ row_inverse {A} step bytes_of P all_bytes one none some n = record { back = back
         rw (some a row, append_assoc (bytes_of a) (all_bytes row) rest, one.forth a (all_bytes row ++ rest) p.1.0, forth n row rest (fewer, p.1.1)) refl
 
 -- formulas one after the other
-pub formulas_inverse : (whole : ℕ) (sc : Scope) (n : ℕ) → Inverse (many (read_formula whole sc) n) with_lengths (Row (Sound sc) n)
+pub formulas_inverse : (whole : ℕ) (sc : Scope) (n : ℕ) → Inverse (read_formulas whole sc n) with_lengths (Row (Sound sc) n)
 formulas_inverse whole sc = row_inverse _ with_length _ with_lengths (formula_inverse whole sc) refl (λ _ _. refl)
 
 -- states one after the other
-starts_inverse : (whole states n : ℕ) → Inverse (many (read_start whole states) n) two_bytes (Row (λ s. s < states) n)
+starts_inverse : (whole states n : ℕ) → Inverse (read_starts whole states n) two_bytes (Row (λ s. s < states) n)
 starts_inverse whole states = row_inverse _ start_bytes _ two_bytes (start_inverse whole states) refl (λ _ _. refl)
 
 -- a count and that many parts

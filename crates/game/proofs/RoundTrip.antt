@@ -12,8 +12,9 @@ use Rattle.game.specs.declared.widths.Widths.{Widths}
 use Rattle.game.specs.Content.{Content, Valid, Sound, file_of, with_length, with_lengths, two_bytes, move_scope, step_scope, state_scope}
 use Rattle.game.specs.Reading.{part, refused, read_formula, read_formulas, read_widths, read_width, read_steps, read_group, read_start_group, read_end, rules_in}
 use Rattle.game.specs.Laws.{Byte, fitted, RulesReadWritten, RulesWrittenRead}
-use Rattle.game.proofs.Rows.{no_refusal}
-use Rattle.game.proofs.Whole.{Triple, Few, contents, went, after_widths, at_widths, at_steps, at_promises, at_goals, at_starts}
+use Rattle.game.specs.First.{no_refusal}
+use Rattle.game.proofs.Rows.{went}
+use Rattle.game.proofs.Whole.{Triple, Few, contents, after_widths, at_widths, at_steps, at_promises, at_goals, at_starts}
 use Rattle.game.proofs.PartInverse.{Exact, exact_as, Inverse, Row, width_inverse, formula_inverse, formulas_inverse, group_inverse, start_group_inverse}
 
 -- the counts of bits

@@ -1,81 +1,95 @@
--- Rows of formulas and of states: what the code passes is what the definition reads.
-use Rattle.std.proofs.Common.{◌≡◌, ℕ, zero, suc, ◌+◌, ◌-◌, ◌*◌, ◌<◌, Bool, true, false, cond, ltb, leb, List, [], ◌∷◌, length, take, drop, Ok, Err, Result, sym, refl, ap, ◌∙◌, arith}
-use Rattle.formula.specs.declared.scope.Scope.{Scope}
-use Rattle.formula.specs.declared.reading.Fault.{Fault}
-use Rattle.formula.specs.Reading.{reading}
+-- Rows of parts, for any first part and any row after it; and what is read of them.
+--   beyond, beyond_next     the row after so many parts
+--   part_beyond, parts_get   a part by its number
+--   said_or                 what it says, or what is said in its place
+--   written_next            the bytes of the parts, and of one more
+--   many_next, many_stopped what is read of so many parts, and of one more
+use Rattle.std.proofs.Common.{◌≡◌, ℕ, zero, suc, ◌<◌, List, [], ◌∷◌, ◌++◌, length, get_or, Option, Some, None, sym, refl, ap, ◌∙◌, append_assoc, append-nil, arith}
+use Rattle.std.specs.List.{slice_get}
+use Rattle.std.specs.Option.{option_map, unwrap_or}
+use Rattle.std.proofs.lemmas.Option.{unwrap_or-slice_get}
 use Rattle.game.specs.declared.refusal.Refusal.{Refusal}
-use Rattle.game.specs.declared.reader.Reader.{Reader}
-use Rattle.game.specs.Content.{formulas_of, starts_of}
-use Rattle.game.specs.Reading.{Step, part, refused, many, judged, read_formula, read_start}
-use Rattle.game.specs.Parts.{Parted}
+use Rattle.game.specs.Content.{parts_of, part_at, written_all}
+use Rattle.game.specs.Reading.{Step, part, refused, then, many}
+use Rattle.game.specs.First.{no_refusal}
 
--- one part more in front of the row
-many_more : {A : Type 0} (step : List ℕ → Step A) (n : ℕ) (bs rest end : List ℕ) (a : A) (more : List A) →
-    step bs ≡ part a rest → many step n rest ≡ part more end → many step (suc n) bs ≡ part (a ∷ more) end
-many_more step n bs rest end a more s later = rw (s, later) refl
+-- what a step gave, if another followed it
+pub went : {A B X : Type 0} (s : Step A) (k : A → List ℕ → Step B) (b : B) (end : List ℕ) →
+    ((a : A) (rest : List ℕ) → s ≡ part a rest → k a rest ≡ part b end → X) → then s k ≡ part b end → X
+went (part a rest) k b end f e = f a rest refl e
+went (refused r) k b end f e = no_refusal e
 
-many_later : {A : Type 0} (step : List ℕ → Step A) (n : ℕ) (bs rest : List ℕ) (a : A) (e : Refusal) →
-    step bs ≡ part a rest → many step n rest ≡ refused e → many step (suc n) bs ≡ refused e
-many_later step n bs rest a e s later = rw (s, later) refl
+-- the row after i parts
+abbrev pub beyond : (List ℕ → List ℕ) → ℕ → List ℕ → List ℕ
+beyond others zero bs = bs
+beyond others (suc i) bs = beyond others i (others bs)
 
--- the same from reader to reader: r before the part, m after it and q after the row
-pub many_parted : {A : Type 0} (step : ℕ → List ℕ → Step A) (of : ℕ → List ℕ → List A) (n : ℕ) (r m q : Reader) (a : A)
-    (res : Result (Unit {0}) Refusal) → 0 < n → step r.whole r.rest.now ≡ part a m.rest.now →
-    m.whole ≡ r.whole → of n r.rest.now ≡ a ∷ of (n - 1) m.rest.now →
-    Parted m q res (λ _. of (n - 1) m.rest.now) (λ w. many (step w) (n - 1)) →
-    Parted r q res (λ _. of n r.rest.now) (λ w. many (step w) n)
-many_parted step of zero r m q a res h s w o p = absurd (omega arith)
-many_parted step of (suc n) r m q a (Ok x) h s w o p =
-    let e : suc n - 1 ≡ n = omega arith in
-    let later : many (step r.whole) n m.rest.now ≡ part (of (suc n - 1) m.rest.now) q.rest.now =
-    ap (λ x. many (step x) n m.rest.now) (sym w) ∙ ap (λ k. many (step m.whole) k m.rest.now) (sym e) ∙ p.0 in
-    (many_more (step r.whole) n _ _ _ a _ s later ∙ ap (λ row. part row q.rest.now) (sym o), p.1 ∙ w)
-many_parted step of (suc n) r m q a (Err x) h s w o p =
-    let e : suc n - 1 ≡ n = omega arith in
-    let later : many (step r.whole) n m.rest.now ≡ refused x =
-    ap (λ x. many (step x) n m.rest.now) (sym w) ∙ ap (λ k. many (step m.whole) k m.rest.now) (sym e) ∙ p in
-    many_later (step r.whole) n _ _ a x s later
+pub beyond_next : (others : List ℕ → List ℕ) (i : ℕ) (bs : List ℕ) → beyond others (suc i) bs ≡ others (beyond others i bs)
+beyond_next others zero bs = refl
+beyond_next others (suc i) bs = beyond_next others i (others bs)
 
--- a row whose first part is refused
-pub many_stopped : {A : Type 0} (step : List ℕ → Step A) (n : ℕ) (bs : List ℕ) (e : Refusal) → 0 < n → step bs ≡ refused e →
-    many step n bs ≡ refused e
-many_stopped step zero bs e h s = absurd (omega arith)
-many_stopped step (suc n) bs e h s = rw s refl
+-- what a part says, or of none what is said in its place
+pub said_or : {A B : Type 0} (said : A → B) (row : List B) (i : ℕ) (d : A) (o : Option A) → option_map said o ≡ slice_get row i →
+    said (unwrap_or o d) ≡ get_or row i (said d)
+said_or said row i d (Some a) e = ap (λ x. unwrap_or x (said d)) e ∙ unwrap_or-slice_get row i (said d)
+said_or said row i d None e = ap (λ x. unwrap_or x (said d)) e ∙ unwrap_or-slice_get row i (said d)
 
--- a part is no refusal
-pub no_refusal : {A X : Type 0} {a : A} {rest : List ℕ} {e : Refusal} → refused e ≡ part a rest → X
-no_refusal p = absurd (let z : ◌≡◌ {A = ℕ} 0 1 = cc in omega arith)
+module _ {A : Type 0} (first : List ℕ → A) (others : List ℕ → List ℕ) where
+  pub part_beyond : (i : ℕ) (bs : List ℕ) → part_at first others i bs ≡ first (beyond others i bs)
+  part_beyond zero bs = refl
+  part_beyond (suc i) bs = part_beyond i (others bs)
 
--- the formula that is read is the first of the row, and what is left holds the others
-pub formula_first : (whole : ℕ) (sc : Scope) (n : ℕ) (bs f rest : List ℕ) → 0 < n → read_formula whole sc bs ≡ part f rest →
-    formulas_of n bs ≡ f ∷ formulas_of (n - 1) rest
-formula_first whole sc zero bs f rest h e = absurd (omega arith)
-formula_first whole sc (suc n) [] f rest h e = no_refusal e
-formula_first whole sc (suc n) (l ∷ bs) f rest h e =
-    let down : suc n - 1 ≡ n = omega arith in
-    rw down (first (reading sc (take l bs)) e)
-  where
-    here : (b : Bool) (at : ℕ) → ◌≡◌ {A = Step (List ℕ)} (cond b (part (take l bs) (drop l bs)) (refused (Rattle.game.specs.declared.refusal.Refusal.TheVariants.Length at))) (part f rest) →
-        take l bs ∷ formulas_of n (drop l bs) ≡ f ∷ formulas_of n rest
-    here true at e = cc
-    here false at e = no_refusal e
+  -- there are as many parts as are asked for
+  pub parts_count : (n : ℕ) (bs : List ℕ) → length (parts_of first others n bs) ≡ n
+  parts_count zero bs = refl
+  parts_count (suc n) bs = ap suc (parts_count n (others bs))
 
-    first : (r : Result (Unit {0}) Fault) → judged whole (whole - length (l ∷ bs)) l bs r ≡ part f rest →
-        take l bs ∷ formulas_of n (drop l bs) ≡ f ∷ formulas_of n rest
-    first (Ok x) e = here (leb l (length bs)) _ e
-    first (Err x) e = no_refusal e
+  pub parts_get : (n i : ℕ) (bs : List ℕ) → i < n → slice_get (parts_of first others n bs) i ≡ Some (first (beyond others i bs))
+  parts_get zero i bs h = absurd (omega arith)
+  parts_get (suc n) zero bs h = refl
+  parts_get (suc n) (suc i) bs h = parts_get n i (others bs) (omega arith)
 
--- likewise the state
-pub start_first : (whole states n : ℕ) (bs : List ℕ) (s : ℕ) (rest : List ℕ) → 0 < n → read_start whole states bs ≡ part s rest →
-    starts_of n bs ≡ s ∷ starts_of (n - 1) rest
-start_first whole states zero bs s rest h e = absurd (omega arith)
-start_first whole states (suc n) [] s rest h e = no_refusal e
-start_first whole states (suc n) (l ∷ []) s rest h e = no_refusal e
-start_first whole states (suc n) (l ∷ (k ∷ bs)) s rest h e =
-    let down : suc n - 1 ≡ n = omega arith in
-    rw down (first (ltb (l + 256 * k) states) e)
-  where
-    first : (b : Bool) → ◌≡◌ {A = Step ℕ} (cond b (part (l + 256 * k) bs) (refused (Rattle.game.specs.declared.refusal.Refusal.TheVariants.Start (whole - length (l ∷ (k ∷ bs)))))) (part s rest) →
-        (l + 256 * k) ∷ starts_of n bs ≡ s ∷ starts_of n rest
-    first true e = cc
-    first false e = no_refusal e
+  -- the bytes of one part more
+  pub written_next : (bytes_of : A → List ℕ) (i : ℕ) (bs : List ℕ) →
+      written_all bytes_of (parts_of first others (suc i) bs) ≡ written_all bytes_of (parts_of first others i bs) ++ bytes_of (first (beyond others i bs))
+  written_next bytes_of zero bs = append-nil (bytes_of (first bs))
+  written_next bytes_of (suc i) bs =
+      ap (λ r. bytes_of (first bs) ++ r) (written_next bytes_of i (others bs)) ∙ sym (append_assoc (bytes_of (first bs)) _ _)
+
+  module _ (step : List ℕ → Step A) (reads_first : (bs : List ℕ) (a : A) (rest : List ℕ) → step bs ≡ part a rest → (first bs ≡ a) × (others bs ≡ rest)) where
+    -- one part more behind those that were read
+    pub many_next : (i : ℕ) (bs rest : List ℕ) (a : A) (end : List ℕ) → many step i bs ≡ part (parts_of first others i bs) rest →
+        step rest ≡ part a end → many step (suc i) bs ≡ part (parts_of first others (suc i) bs) end
+    many_next zero bs rest a end so e =
+        let same : bs ≡ rest = cc in
+        let here : step bs ≡ part a end = ap step same ∙ e in
+        rw here (ap (λ x. part (x ∷ []) end) (sym (reads_first bs a end here).0))
+    many_next (suc i) bs rest a end so e =
+        went (step bs) _ _ rest
+        (λ b r₁ e₁. went (many step i r₁) _ _ rest
+        (λ more r₂ e₂ e₃.
+        let p = reads_first bs b r₁ e₁ in
+        let left : r₂ ≡ rest = cc in
+        let tail : more ≡ parts_of first others i (others bs) = cc in
+        let tail' : many step i r₁ ≡ part (parts_of first others i r₁) rest = e₂ ∙ ap (λ r. part more r) left ∙ ap (λ m. part m rest) (tail ∙ ap (parts_of first others i) p.1) in
+        let later = many_next i r₁ rest a end tail' e in
+        rw (e₁, later) (rw (p.0, p.1) refl)))
+        so
+
+-- nothing after the part that is refused is read
+pub many_stopped : {A : Type 0} (step : List ℕ → Step A) (n i : ℕ) (bs : List ℕ) (row : List A) (rest : List ℕ) (e : Refusal) → i < n →
+    many step i bs ≡ part row rest → step rest ≡ refused e → many step n bs ≡ refused e
+many_stopped step zero i bs row rest e h so s = absurd (omega arith)
+many_stopped step (suc n) zero bs row rest e h so s =
+    let same : bs ≡ rest = cc in
+    let here : step bs ≡ refused e = ap step same ∙ s in
+    rw here refl
+many_stopped step (suc n) (suc i) bs row rest e h so s =
+    went (step bs) _ row rest
+    (λ a r₁ e₁. went (many step i r₁) _ row rest
+    (λ more r₂ e₂ e₃.
+    let left : r₂ ≡ rest = cc in
+    let less : i < n = omega (arith, h) in
+    let later : many step n r₁ ≡ refused e = many_stopped step n i r₁ more rest e less (e₂ ∙ ap (λ r. part more r) left) s in
+    rw (e₁, later) refl))
+    so

@@ -1,7 +1,8 @@
 -- The whole file from its parts, one by one: `n` is the file's length as the reader has it at that part.
 use Rattle.std.proofs.Common.{◌≡◌, ℕ, ◌-◌, ◌^◌, ◌<◌, ◌≤◌, min, Bool, true, false, cond, leb, List, [], ◌∷◌, length, sym, refl, ap, ◌∙◌, arith}
 use Rattle.std.proofs.lemmas.Bool.{leb-true}
-use Rattle.game.proofs.Rows.{no_refusal}
+use Rattle.game.specs.First.{no_refusal}
+use Rattle.game.proofs.Rows.{went}
 use Rattle.formula.specs.declared.scope.Scope.{Scope}
 use Rattle.game.specs.declared.widths.Widths.{Widths}
 use Rattle.game.specs.declared.refusal.Refusal.TheVariants.{GoesOn, Bits}
@@ -90,12 +91,6 @@ pub record Few (w : Widths) : Type 0 where
   pub state : w.state ≤ 12
   pub moves : w.moves ≤ 6
   pub answer : w.answer ≤ 6
-
--- what a step gave, if another followed it
-pub went : {A B X : Type 0} (s : Step A) (k : A → List ℕ → Step B) (b : B) (end : List ℕ) →
-    ((a : A) (rest : List ℕ) → s ≡ part a rest → k a rest ≡ part b end → X) → then s k ≡ part b end → X
-went (part a rest) k b end f e = f a rest refl e
-went (refused r) k b end f e = no_refusal e
 
 pub widths_few : (n : ℕ) (bs : List ℕ) (w : Widths) (end : List ℕ) → read_widths n bs ≡ part w end → Few w
 widths_few n bs w end =

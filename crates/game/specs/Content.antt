@@ -2,7 +2,9 @@
 --   Content              the rules, with their formulas as rows of bytes
 --   move_scope, step_scope, state_scope   the bits that a rule may use
 --   Valid                the counts, formulas and starts are such as a file may hold
+--   written_all          parts one after the other: formulas after their lengths, states of two bytes
 --   file_of              the bytes of the rules
+--   parts_of, part_at    the first parts of a row of bytes, and one of them by its number
 --   formulas_of          the formulas in a row of bytes, each after its length
 --   starts_of            the states in a row of bytes, two bytes each
 --   steps_of, content    what the rules in a program's memory say
@@ -65,15 +67,22 @@ pub record Valid (c : Content) : Type 0 where
 abbrev pub with_length : List ℕ → List ℕ
 with_length f = length f ∷ f
 
+-- a state's two bytes, the low one first
+abbrev pub low_high : ℕ → List ℕ
+low_high s = s % 256 ∷ s / 256 ∷ []
+
+-- the bytes of parts one after the other
+abbrev pub written_all : {A : Type 0} → (A → List ℕ) → List A → List ℕ
+written_all bytes_of [] = []
+written_all bytes_of (a ∷ more) = bytes_of a ++ written_all bytes_of more
+
 -- formulas one after the other, each after its length
 abbrev pub with_lengths : List (List ℕ) → List ℕ
-with_lengths [] = []
-with_lengths (f ∷ fs) = with_length f ++ with_lengths fs
+with_lengths = written_all with_length
 
 -- states of two bytes each, the low one first
 abbrev pub two_bytes : List ℕ → List ℕ
-two_bytes [] = []
-two_bytes (s ∷ ss) = s % 256 ∷ s / 256 ∷ two_bytes ss
+two_bytes = written_all low_high
 
 -- the rules file, part by part
 abbrev pub file_of : Content → List ℕ
@@ -82,6 +91,16 @@ file_of c =
     ++ (with_length c.move_rule ++ (with_length c.answer_rule ++ (with_lengths c.next
     ++ ((length c.promises ∷ with_lengths c.promises) ++ ((length c.goals ∷ with_lengths c.goals)
     ++ (length c.starts ∷ two_bytes c.starts))))))
+
+-- the first n parts of a row of bytes, where `first` is its first part and `others` the row after that
+abbrev pub parts_of : {A : Type 0} → (List ℕ → A) → (List ℕ → List ℕ) → ℕ → List ℕ → List A
+parts_of first others zero bs = []
+parts_of first others (suc n) bs = first bs ∷ parts_of first others n (others bs)
+
+-- part i of such a row
+abbrev pub part_at : {A : Type 0} → (List ℕ → A) → (List ℕ → List ℕ) → ℕ → List ℕ → A
+part_at first others zero bs = first bs
+part_at first others (suc i) bs = part_at first others i (others bs)
 
 -- the first formula of a row in which each stands after its length, and the row after it
 abbrev pub first_formula : List ℕ → List ℕ
@@ -94,18 +113,19 @@ other_formulas (l ∷ bs) = drop l bs
 
 -- the first n formulas of such a row; one that lacks is empty
 abbrev pub formulas_of : ℕ → List ℕ → List (List ℕ)
-formulas_of zero bs = []
-formulas_of (suc n) bs = first_formula bs ∷ formulas_of n (other_formulas bs)
+formulas_of = parts_of first_formula other_formulas
 
 -- formula i of such a row
 abbrev pub nth_formula : ℕ → List ℕ → List ℕ
-nth_formula zero bs = first_formula bs
-nth_formula (suc i) bs = nth_formula i (other_formulas bs)
+nth_formula = part_at first_formula other_formulas
 
--- the first n states of a row in which each has two bytes; one that lacks is 0
+-- the first state of a row in which each has two bytes, the low one first; a byte that lacks is 0
+abbrev pub first_start : List ℕ → ℕ
+first_start bs = slice_index bs 0 + 256 * slice_index bs 1
+
+-- the first n states of such a row
 abbrev pub starts_of : ℕ → List ℕ → List ℕ
-starts_of zero bs = []
-starts_of (suc n) bs = (slice_index bs 0 + 256 * slice_index bs 1) ∷ starts_of n (drop 2 bs)
+starts_of = parts_of first_start (drop 2)
 
 -- the move rule, the answer rule and the values after that are in memory
 abbrev pub steps_of : StepRules → List ℕ × List ℕ × List (List ℕ)

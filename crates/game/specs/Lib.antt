@@ -6,6 +6,7 @@ pub mod Theorems
 pub mod Refusals
 pub mod Content
 pub mod Reading
+pub mod First
 pub mod Meaning
 pub mod Parts
 pub mod Finite

@@ -2,7 +2,7 @@
 --   Step, then                         what one part gives: a value and the bytes left, or a refusal
 --   read_byte, read_width, read_count  single bytes
 --   read_formula, -formulas, -group    formulas after their lengths, and why one is none
---   many                               a number of parts one after the other
+--   many, counted                      a number of parts one after the other, and the same after their count
 --   read_start, -starts, -start-group  start states
 --   read_widths, read_steps, rules_in  the parts of the file, and the whole
 -- `whole` is the file's length throughout, so that a place is `whole` less the bytes left from there.
@@ -68,9 +68,13 @@ many step (suc n) bs = then (step bs) (λ a rest. then (many step n rest) (λ mo
 abbrev pub read_formulas : ℕ → Scope → ℕ → List ℕ → Step (List (List ℕ))
 read_formulas whole sc = many (read_formula whole sc)
 
+-- a count from `least` to `most`, and that many parts
+abbrev pub counted : {A : Type 0} → ℕ → (List ℕ → Step A) → ℕ → ℕ → List ℕ → Step (List A)
+counted whole step least most bs = then (read_count whole least most bs) (λ n rest. many step n rest)
+
 -- a count and that many formulas
 abbrev pub read_group : ℕ → Scope → ℕ → ℕ → List ℕ → Step (List (List ℕ))
-read_group whole sc least most bs = then (read_count whole least most bs) (λ n rest. read_formulas whole sc n rest)
+read_group whole sc = counted whole (read_formula whole sc)
 
 -- a state of two bytes, the low one first, below the number of states
 abbrev pub read_start : ℕ → ℕ → List ℕ → Step ℕ
@@ -84,7 +88,7 @@ read_starts whole states = many (read_start whole states)
 
 -- a count and that many states
 abbrev pub read_start_group : ℕ → ℕ → ℕ → ℕ → List ℕ → Step (List ℕ)
-read_start_group whole states least most bs = then (read_count whole least most bs) (λ n rest. read_starts whole states n rest)
+read_start_group whole states = counted whole (read_start whole states)
 
 -- nothing is left
 abbrev pub read_end : {A : Type 0} → ℕ → A → List ℕ → Step A

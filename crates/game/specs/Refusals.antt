@@ -1,5 +1,6 @@
--- The number and the place of each refusal. Assumes nothing.
-use Rattle.std.specs.Prelude.{ℕ}
+-- The number, the place and the text of each refusal. Assumes nothing.
+use Rattle.std.specs.Prelude.{ℕ, List, ◌++◌, codes}
+use Rattle.std.specs.Fmt.{decimal}
 use Rattle.game.specs.declared.refusal.Refusal.{Refusal}
 use Rattle.game.specs.declared.refusal.Refusal.TheVariants.{CutOff, GoesOn, Bits, Symbol, Length, Count, Start, Lent, TableFault, WayFault, UnknownStart, ForbiddenMove, UnknownState}
 
@@ -35,3 +36,7 @@ place_of (WayFault n) = n
 place_of (UnknownStart n) = n
 place_of ForbiddenMove = 0
 place_of UnknownState = 1
+
+-- the line that is printed of it
+abbrev pub text_of : Refusal → List ℕ
+text_of r = codes "refused " ++ decimal (number_of r) ++ codes " at " ++ decimal (place_of r)

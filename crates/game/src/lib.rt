@@ -2,6 +2,7 @@
 #![tactic(auto)]
 
 pub mod agree;
+mod part;
 mod reader;
 pub mod refusal;
 pub mod rules;

@@ -1,15 +1,17 @@
 // Reads a rules file, part by part, or refuses it with the first fault in the order of the bytes.
-ghost use Rattle.std.specs.Prelude.{◌≡◌, ◌-◌, length, IfOk};
-ghost use Rattle.game.specs.Content.{formulas_of, starts_of, steps_of};
-ghost use Rattle.game.specs.Reading.{read_byte, read_width, read_count, misread, read_widths, read_steps, read_formula, read_formulas, read_group, read_start, read_starts, read_start_group};
+ghost use Rattle.std.specs.Prelude.{◌≡◌, ◌-◌, length, nat_lt, IfOk};
+ghost use Rattle.game.specs.Content.{parts_of, steps_of};
+ghost use Rattle.game.specs.Reading.{read_byte, read_width, read_count, misread, read_widths, read_steps, read_formula, many, counted, read_start};
 ghost use Rattle.game.specs.Parts.{Parted, Ended};
 
+use crate::part::Part;
 use crate::refusal::Refusal;
-use crate::rules::{Section, Starts, StepRules};
+use crate::rules::{Section, StepRules};
 use crate::widths::{ANSWER_BITS, MOVE_BITS, STATE_BITS, Widths};
 use formula::Formula;
 use formula::reading::Fault;
 use formula::scope::Scope;
+use std::marker::PhantomData;
 
 // The bytes that are left of a file, and the file's length: a place is that length less what is left from there.
 #[derive(Drop)]
@@ -68,88 +70,77 @@ impl<'a> Reader<'a> {
         let len = self.byte()? as usize;
         let left = self.rest.len();
         let (bytes, rest) = self.rest.split_at(len.min(left));
+        // A match, since a formula may be refused for its length too; with `map_err` the proof of the closure's refusal
+        // stays open.
         match Formula::read(bytes, scope) {
             Ok(_) if len > left => Err(Refusal::Length { at }),
             Ok(formula) => {
                 self.rest = rest;
                 Ok(formula)
             }
-            Err(fault) => Err(no_formula(self.whole, at, left, left < len, fault)),
+            Err(fault) => Err(self.no_formula(at, len, fault)),
         }
     }
 
-    // Passes n formulas one after the other.
-    fn formulas(&mut self, n: u8, scope: Scope) -> Result<(), Refusal>
-        ensures { Parted self.old self.new result (λ _. formulas_of n self.old.rest.now) (λ w. read_formulas w scope n) }
+    // Why the bytes that are left do not begin with a formula of `len` bytes; its length byte is at `at`.
+    fn no_formula(&self, at: usize, len: usize, fault: Fault) -> Refusal
+        ensures { let left = length self.now.rest.now in result ≡ misread self.now.whole at left (nat_lt left len) fault }
     {
-        if n == 0 {
-            return Ok(());
+        let left = self.rest.len();
+        match fault {
+            Fault::Symbol { at: k } => Refusal::Symbol {
+                at: self.whole.saturating_sub(left.saturating_sub(k as usize)),
+            },
+            Fault::Short if left < len => Refusal::CutOff { length: self.whole },
+            Fault::Short | Fault::Long => Refusal::Length { at },
         }
-        self.formula(scope)?;
-        self.formulas(n - 1, scope)
-    }
-
-    // The row of n formulas.
-    pub(crate) fn section(&mut self, n: u8, scope: Scope) -> Result<Section<'a>, Refusal>
-        ensures parts { Parted self.old self.new result (λ s. formulas_of s.count s.bytes.now) (λ w. read_formulas w scope n) }
-        ensures count { IfOk result (λ s. s.count ≡ n) }
-    {
-        let bytes = self.rest;
-        self.formulas(n, scope)?;
-        Ok(Section { count: n, bytes })
-    }
-
-    // A count and a row of that many formulas.
-    pub(crate) fn group(
-        &mut self,
-        least: u8,
-        most: u8,
-        scope: Scope,
-    ) -> Result<Section<'a>, Refusal>
-        ensures { Parted self.old self.new result (λ s. formulas_of s.count s.bytes.now) (λ w. read_group w scope least most) }
-    {
-        let n = self.count(least, most)?;
-        self.section(n, scope)
     }
 
     // A state of two bytes, the low one first.
-    fn start(&mut self, states: u32) -> Result<u16, Refusal>
+    pub(crate) fn state(&mut self, states: u32) -> Result<u16, Refusal>
         ensures { Parted self.old self.new result (λ s. s) (λ w. read_start w states) }
     {
         let at = self.place();
         let low = self.byte()?;
         let high = self.byte()?;
-        let state = low as u16 + 256 * high as u16;
+        let state = u16::from_le_bytes([low, high]);
         if state as u32 >= states {
             return Err(Refusal::Start { at });
         }
         Ok(state)
     }
 
-    // Passes n states one after the other.
-    fn starts(&mut self, n: u8, states: u32) -> Result<(), Refusal>
-        ensures { Parted self.old self.new result (λ _. starts_of n self.old.rest.now) (λ w. read_starts w states n) }
+    // n parts one after the other.
+    pub(crate) fn section<P: Part<'a>>(
+        &mut self,
+        n: u8,
+        limit: P::Limit,
+    ) -> Result<Section<'a, P>, Refusal>
+        ensures parts { Parted self.old self.new result (λ s. parts_of P.first P.others s.count s.bytes.now) (λ w. many (P.reads w limit) n) }
+        ensures count { IfOk result (λ s. s.count ≡ n) }
     {
-        if n == 0 {
-            return Ok(());
+        let bytes = self.rest;
+        for _ in 0..n {
+            P::read(self, limit)?;
         }
-        self.start(states)?;
-        self.starts(n - 1, states)
+        Ok(Section {
+            count: n,
+            bytes,
+            of: PhantomData,
+        })
     }
 
-    // A count and a row of that many states.
-    pub(crate) fn start_group(
+    // A count and that many parts.
+    pub(crate) fn group<P: Part<'a>>(
         &mut self,
         least: u8,
         most: u8,
-        states: u32,
-    ) -> Result<Starts<'a>, Refusal>
-        ensures { Parted self.old self.new result (λ s. starts_of s.count s.bytes.now) (λ w. read_start_group w states least most) }
+        limit: P::Limit,
+    ) -> Result<Section<'a, P>, Refusal>
+        ensures { Parted self.old self.new result (λ s. parts_of P.first P.others s.count s.bytes.now) (λ w. counted w (P.reads w limit) least most) }
     {
         let n = self.count(least, most)?;
-        let bytes = self.rest;
-        self.starts(n, states)?;
-        Ok(Starts { count: n, bytes })
+        self.section(n, limit)
     }
 
     // Nothing is left.
@@ -190,18 +181,5 @@ impl<'a> Reader<'a> {
             answers,
             next,
         })
-    }
-}
-
-// Why a row of the file is no formula; `left` bytes of the file come after its length byte, which is at `at`.
-fn no_formula(whole: usize, at: usize, left: usize, cut: bool, fault: Fault) -> Refusal
-    ensures { result ≡ misread whole at left cut fault }
-{
-    match fault {
-        Fault::Symbol { at: k } => Refusal::Symbol {
-            at: whole.saturating_sub(left.saturating_sub(k as usize)),
-        },
-        Fault::Short if cut => Refusal::CutOff { length: whole },
-        Fault::Short | Fault::Long => Refusal::Length { at },
     }
 }

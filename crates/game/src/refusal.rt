@@ -1,6 +1,9 @@
 // Why something that was given is refused. Every layer refuses with this enum, and every program prints it the same way.
-ghost use Rattle.std.specs.Prelude.{◌≡◌};
-ghost use Rattle.game.specs.Refusals.{number_of, place_of};
+ghost use Rattle.std.specs.Prelude.{◌≡◌, Some};
+ghost use Rattle.game.specs.Refusals.{number_of, place_of, text_of};
+
+use std::error::Error;
+use std::fmt;
 
 #[derive(Clone, Copy, PartialEq, Eq, Debug)]
 pub enum Refusal {
@@ -74,3 +77,16 @@ impl Refusal {
         }
     }
 }
+
+// What the programs print of it.
+impl fmt::Display for Refusal {
+    ghost output = { λ r. Some (text_of r) };
+
+    fn fmt<W: fmt::Write>(&self, f: &mut fmt::Formatter<W>) -> fmt::Result {
+        let number = self.number();
+        let place = self.place();
+        write!(f, "refused {number} at {place}")
+    }
+}
+
+impl Error for Refusal {}

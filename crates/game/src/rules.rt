@@ -7,6 +7,7 @@ use crate::reader::Reader;
 use crate::refusal::Refusal;
 use crate::widths::Widths;
 use formula::Formula;
+use std::marker::PhantomData;
 
 // The most promises, goals and start states.
 pub const PROMISES: u8 = 8;
@@ -19,19 +20,23 @@ pub const STARTS: u8 = 16;
 // state bits, 8 promises and 8 goals; three counts, and 16 starts of two bytes.
 pub const MOST_FILE: u64 = 3 + 256 * (2 + 12 + 8 + 8) + 3 + 2 * 16;
 
-// Formulas one after the other, each after its length; bytes of the file may follow.
+// The kinds of parts that stand in rows: formulas, each after its length, and states of two bytes.
 #[derive(Clone, Copy)]
-pub struct Section<'a> {
+pub struct Formulas;
+
+#[derive(Clone, Copy)]
+pub struct States;
+
+// So many parts one after the other, formulas if nothing else is said; bytes of the file may follow.
+#[derive(Clone, Copy)]
+pub struct Section<'a, P = Formulas> {
     pub count: u8,
     pub bytes: &'a [u8],
+    pub of: PhantomData<P>,
 }
 
-// Start states one after the other, two bytes each.
-#[derive(Clone, Copy)]
-pub struct Starts<'a> {
-    pub count: u8,
-    pub bytes: &'a [u8],
-}
+// Start states.
+pub type Starts<'a> = Section<'a, States>;
 
 // What may happen in a step: the move rule, the answer rule, and each state bit's value after the step.
 #[derive(Clone, Copy)]
@@ -66,7 +71,7 @@ impl<'a> Rules<'a> {
         let steps = reader.steps(widths)?;
         let promises = reader.group(0, PROMISES, widths.state_scope())?;
         let goals = reader.group(1, GOALS, widths.state_scope())?;
-        let starts = reader.start_group(1, STARTS, widths.states())?;
+        let starts = reader.group(1, STARTS, widths.states())?;
         reader.end()?;
         Ok(Rules {
             widths,

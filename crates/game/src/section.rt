@@ -1,10 +1,14 @@
-// Rows of formulas, each after its length, and the numbers that they spell.
-ghost use Rattle.std.specs.Prelude.{◌≡◌, ◌^◌, ◌<◌, ◌≤◌, [], length, slice_index_or};
-ghost use Rattle.game.specs.Content.{first_formula, other_formulas, formulas_of, nth_formula};
-ghost use Rattle.game.specs.Meaning.{number};
+// Rows of parts: one by its number, their bytes, and the numbers that formulas spell.
+ghost use Rattle.std.specs.Prelude.{◌≡◌, ◌^◌, ◌<◌, ◌≤◌, ◌&&◌, not, nat_lt, min, [], ◌∷◌, length, slice_get, slice_index, slice_index_or};
+ghost use Rattle.std.specs.Option.{option_map};
+ghost use Rattle.game.specs.Content.{first_formula, other_formulas, parts_of, formulas_of, starts_of, written_all};
+ghost use Rattle.game.specs.Laws.{Appended};
+ghost use Rattle.game.specs.Meaning.{number, value_of};
 
-use crate::rules::Section;
+use crate::part::Part;
+use crate::rules::{Section, Starts};
 use formula::Formula;
+use std::alloc::AllocError;
 
 // The first formula of a row, and the row after it; both are empty where the row is.
 pub fn cut<'a>(bytes: &'a [u8]) -> (Formula<'a>, &'a [u8])
@@ -18,15 +22,8 @@ pub fn cut<'a>(bytes: &'a [u8]) -> (Formula<'a>, &'a [u8])
     (Formula { bytes: first }, others)
 }
 
-// Formula i of a row.
-fn nth<'a>(bytes: &'a [u8], i: u8) -> Formula<'a>
-    ensures { result.bytes.now ≡ nth_formula i bytes.now }
-{
-    let (first, others) = cut(bytes);
-    if i == 0 { first } else { nth(others, i - 1) }
-}
-
-// The number whose bits are the values of the first n formulas of a row, the lowest first.
+// The number whose bits are the values of the first n formulas of a row, the lowest first. A loop would need the worth of
+// each bit beside the sum; the recursion is the definition.
 pub fn spelt(bytes: &[u8], n: u8, state: u16, moved: u8, answer: u8) -> u16
     requires { n ≤ 16 }
     ensures value { result ≡ number (formulas_of n bytes.now) state moved answer }
@@ -36,13 +33,56 @@ pub fn spelt(bytes: &[u8], n: u8, state: u16, moved: u8, answer: u8) -> u16
         return 0;
     }
     let (first, others) = cut(bytes);
-    let low = if first.value(state, moved, answer) {
-        1
-    } else {
-        0
-    };
+    let low = u16::from(first.value(state, moved, answer));
     let high = spelt(others, n - 1, state, moved, answer);
     low + 2 * high
+}
+
+impl<'a, P: Part<'a>> Section<'a, P> {
+    // The part of a number.
+    pub(crate) fn nth(self, i: u8) -> Option<P::Item>
+        ensures { option_map P.said result ≡ slice_get (parts_of P.first P.others self.entry.count self.entry.bytes.now) i }
+    {
+        if i >= self.count {
+            return None;
+        }
+        let mut row = self.bytes;
+        for _ in 0..i {
+            row = P::cut(row).1;
+        }
+        Some(P::cut(row).0)
+    }
+
+    // No more than so many of them.
+    pub(crate) fn up_to(self, most: u8) -> Section<'a, P>
+        ensures count { result.count ≡ min self.entry.count most }
+        ensures bytes { result.bytes.now ≡ self.entry.bytes.now }
+    {
+        Section {
+            count: self.count.min(most),
+            ..self
+        }
+    }
+
+    // Appends the parts.
+    pub(crate) fn write(self, out: &mut Vec<u8>) -> Result<(), AllocError>
+        ensures { Appended out.old.items out.new.items result (written_all P.bytes_of (parts_of P.first P.others self.entry.count self.entry.bytes.now)) }
+    {
+        let mut row = self.bytes;
+        for _ in 0..self.count {
+            row = P::copy(row, out)?;
+        }
+        Ok(())
+    }
+
+    // Appends the parts after their count.
+    pub(crate) fn write_group(self, out: &mut Vec<u8>) -> Result<(), AllocError>
+        ensures { Appended out.old.items out.new.items result
+            (let parts = parts_of P.first P.others self.entry.count self.entry.bytes.now in length parts ∷ written_all P.bytes_of parts) }
+    {
+        out.push(self.count)?;
+        self.write(out)
+    }
 }
 
 impl<'a> Section<'a> {
@@ -50,10 +90,31 @@ impl<'a> Section<'a> {
     pub fn formula(self, i: u8) -> Formula<'a>
         ensures { result.bytes.now ≡ slice_index_or (formulas_of self.entry.count self.entry.bytes.now) i [] }
     {
-        if i < self.count {
-            nth(self.bytes, i)
-        } else {
-            Formula { bytes: &[] }
-        }
+        self.nth(i).unwrap_or(Formula { bytes: &[] })
+    }
+
+    // Whether formula i holds in the state; one that there is not holds nowhere.
+    pub fn holds(self, i: u8, state: u16) -> bool
+        ensures { result ≡ value_of (slice_index_or (formulas_of self.entry.count self.entry.bytes.now) i []) state 0 0 }
+    {
+        self.formula(i).value(state, 0, 0)
+    }
+
+    // Whether there is a formula i, and it does not hold in the state.
+    #[tactic(auto, using(crate::proofs::Appending::formulas_count, std::proofs::lemmas::Bool::Decides::nat_tests))]
+    pub fn lacks(self, i: u8, state: u16) -> bool
+        ensures { let formulas = formulas_of self.entry.count self.entry.bytes.now in
+            result ≡ (nat_lt i (length formulas) && not (value_of (slice_index_or formulas i []) state 0 0)) }
+    {
+        i < self.count && !self.holds(i, state)
+    }
+}
+
+impl Starts<'_> {
+    // The start of a number; 0 where there is none.
+    pub fn get(self, i: u8) -> u16
+        ensures { result ≡ slice_index (starts_of self.entry.count self.entry.bytes.now) i }
+    {
+        self.nth(i).unwrap_or(0)
     }
 }

@@ -1,5 +1,6 @@
 // The game of the rules, question by question: what may happen in a step, what follows, and what holds in a state.
-ghost use Rattle.std.specs.Prelude.{◌≡◌};
+ghost use Rattle.std.specs.Prelude.{◌≡◌, ◌+◌, ◌<◌, nat_lt, if◌then◌else◌};
+ghost use Rattle.game.specs.Game.{next_around};
 ghost use Rattle.game.specs.Content.{content};
 ghost use Rattle.game.specs.Meaning.{game_of};
 
@@ -44,13 +45,26 @@ impl Rules<'_> {
     pub fn promise_holds(&self, i: u8, state: u16) -> bool
         ensures { result ≡ (game_of (content self.now)).promise i state }
     {
-        self.promises.formula(i).value(state, 0, 0)
+        self.promises.holds(i, state)
     }
 
     // Whether goal j holds in the state; one that there is not holds nowhere.
     pub fn goal_holds(&self, j: u8, state: u16) -> bool
         ensures { result ≡ (game_of (content self.now)).goal j state }
     {
-        self.goals.formula(j).value(state, 0, 0)
+        self.goals.holds(j, state)
+    }
+
+    // The number after a goal's, and 0 after the last one and where there is no such goal.
+    #[tactic(auto, using(crate::proofs::Appending::formulas_count, std::proofs::lemmas::Bool::Decides::nat_tests))]
+    pub fn next_goal(&self, goal: u8) -> u8
+        ensures next { let goals = (game_of (content self.now)).goals in result ≡ (if nat_lt (goal + 1) goals then goal + 1 else 0) }
+        ensures around { goal < (game_of (content self.now)).goals → result ≡ next_around (game_of (content self.now)).goals goal }
+    {
+        if goal < self.goals.count.saturating_sub(1) {
+            goal + 1
+        } else {
+            0
+        }
     }
 }

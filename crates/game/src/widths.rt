@@ -1,5 +1,5 @@
 // How many bits states, moves and answers have, and so which bits a rule may use.
-ghost use Rattle.std.specs.Prelude.{◌≡◌, ◌^◌, min};
+ghost use Rattle.std.specs.Prelude.{◌≡◌, ◌^◌, ◌<◌, min};
 ghost use Rattle.game.specs.Content.{move_scope, step_scope, state_scope};
 
 use formula::scope::Scope;
@@ -11,6 +11,7 @@ pub const MOVE_BITS: u8 = 6;
 
 pub const ANSWER_BITS: u8 = 6;
 
+// The counts that a file begins with; a `Scope` says which of these bits one rule may use.
 #[derive(Clone, Copy, PartialEq, Eq, Debug)]
 pub struct Widths {
     pub state: u8,
@@ -18,6 +19,15 @@ pub struct Widths {
     pub answer: u8,
 }
 
+// How many numbers have so many bits; a count of bits above the limit is taken as the limit.
+fn numbers(bits: u8, most: u8) -> u32
+    requires { most < 32 }
+    ensures { result ≡ 2 ^ min bits most }
+{
+    1 << bits.min(most)
+}
+
+// The three scopes have names of their own, since the definitions do: each is the one before without the last bits.
 impl Widths {
     // The bits of the answer rule and of the values after a step.
     pub fn step_scope(self) -> Scope
@@ -54,20 +64,20 @@ impl Widths {
     pub fn states(self) -> u32
         ensures { result ≡ 2 ^ min self.state 12 }
     {
-        1 << self.state.min(STATE_BITS)
+        numbers(self.state, STATE_BITS)
     }
 
     // How many moves.
     pub fn moves(self) -> u32
         ensures { result ≡ 2 ^ min self.moves 6 }
     {
-        1 << self.moves.min(MOVE_BITS)
+        numbers(self.moves, MOVE_BITS)
     }
 
     // How many answers.
     pub fn answers(self) -> u32
         ensures { result ≡ 2 ^ min self.answer 6 }
     {
-        1 << self.answer.min(ANSWER_BITS)
+        numbers(self.answer, ANSWER_BITS)
     }
 }

@@ -1,9 +1,9 @@
 -- What the recorder writes, and what it replays to.
---   write_more, write_end  one turn of the writing of steps, and its end
+--   write_end              the end of the writing of steps
 --   paired_taken           the steps of the moves that were answered
 --   replays                a walk's log replays to the states of the play
 --   recorded               what is promised of a recording
-use Rattle.std.proofs.Common.{◌≡◌, ℕ, ◌+◌, ◌/◌, ◌%◌, ◌<◌, ◌≤◌, min, Bool, true, false, ltb, ◌⊎◌, List, [], ◌∷◌, ◌++◌, length, get_or, take, drop, vec_items, sym, refl, ap, ◌∙◌, inl, inr, ⊎_elim, append_assoc, append-nil, add-one, arith, drop-cons, ltb-false, ltb-true}
+use Rattle.std.proofs.Common.{◌≡◌, ℕ, ◌/◌, ◌%◌, ◌≤◌, min, Bool, true, false, ltb, ◌⊎◌, List, [], ◌∷◌, ◌++◌, length, take, drop, vec_items, sym, refl, ap, ◌∙◌, inl, inr, ⊎_elim, append-nil, arith, ltb-false, ltb-true}
 use Rattle.std.proofs.lemmas.List.{drop_all}
 use Rattle.game.specs.Game.{Game}
 use Rattle.game.specs.Plan.{Plan}
@@ -16,15 +16,6 @@ use Rattle.play.specs.declared.recording.Recording.{Recording}
 use Rattle.play.specs.Recorded.{logged, Recorded}
 use Rattle.play.specs.Logs.{Step, paired, spelled, bytes_of}
 use Rattle.play.specs.Replays.{states_after, states_along}
-
-pub write_more : (moves answers out more whole : List ℕ) (i : ℕ) → i < length moves → i < length answers →
-    more ≡ out ++ (get_or moves i 0 ∷ get_or answers i 0 ∷ []) →
-    out ++ spelled (paired (drop i moves) (drop i answers)) ≡ whole →
-    more ++ spelled (paired (drop (i + 1) moves) (drop (i + 1) answers)) ≡ whole
-write_more moves answers out more whole i l m pushed h =
-    let d : out ++ (get_or moves i 0 ∷ get_or answers i 0 ∷ spelled (paired (drop (i + 1) moves) (drop (i + 1) answers))) ≡ whole =
-    rw add-one (rw (drop-cons moves i 0 l, drop-cons answers i 0 m) at h) in
-    rw (pushed, append_assoc) d
 
 unpaired : (moves : List ℕ) → paired moves [] ≡ []
 unpaired [] = refl

@@ -22,16 +22,15 @@ impl<'a> Log<'a> {
         ensures outcome { Reads bytes.now result }
         ensures reads_written { (p : Record) → bytes_of p ≡ bytes.now → MatchResult result (λ l. record_of l ≡ p) (λ _. ⊥) }
     {
-        if bytes.len() < 2 || bytes.len() % 2 == 1 {
-            return Err(Refusal::CutOff {
+        match bytes {
+            [low, high, steps @ ..] if steps.len() % 2 == 0 => Ok(Log {
+                start: u16::from_le_bytes([*low, *high]),
+                steps,
+            }),
+            _ => Err(Refusal::CutOff {
                 length: bytes.len(),
-            });
+            }),
         }
-        let (start, steps) = bytes.split_at(2);
-        Ok(Log {
-            start: start[0] as u16 + 256 * start[1] as u16,
-            steps,
-        })
     }
 
     // Appends the bytes of the log; where memory is lacking, nothing.
@@ -39,10 +38,11 @@ impl<'a> Log<'a> {
         ensures { Written out.old.items out.new.items result (bytes_of (record_of self.entry)) }
     {
         let before = out.len();
-        out.extend_from_slice(&[(self.start % 256) as u8, (self.start / 256) as u8])?;
         let whole = self.steps.len() - self.steps.len() % 2;
-        match out.extend_from_slice(&self.steps[0..whole]) {
+        out.extend_from_slice(&self.start.to_le_bytes())?;
+        match out.extend_from_slice(&self.steps[..whole]) {
             Ok(()) => Ok(()),
+            // no `?`: the start goes again
             Err(lacking) => {
                 out.truncate(before);
                 Err(lacking)
@@ -56,12 +56,10 @@ impl<'a> Log<'a> {
     {
         let mut states = Vec::new(heap);
         let mut state = self.start;
-        let mut steps = self.steps;
         states.push(state)?;
-        while let [moved, answer, rest @ ..] = steps {
+        for [moved, answer] in self.steps.as_chunks::<2>().0 {
             state = rules.after(state, *moved, *answer);
             states.push(state)?;
-            steps = rest;
         }
         Ok(states)
     }

@@ -19,8 +19,8 @@ pub struct Recording<'a> {
 fn write_steps(moves: &[u8], answers: &[u8], out: &mut Vec<u8>) -> Result<(), AllocError>
     ensures { OnOk result (out.new.items ≡ out.old.items ++ spelled (paired moves.now answers.now)) }
 {
-    for i in 0..moves.len().min(answers.len()) {
-        out.extend_from_slice(&[moves[i], answers[i]])?;
+    for (moved, answer) in moves.iter().zip(answers) {
+        out.extend_from_slice(&[*moved, *answer])?;
     }
     Ok(())
 }

@@ -19,21 +19,20 @@ mod tests {
     // State 0 is known, state 1 is not.
     const TABLE: [u8; 12] = [1, 0, 1, 0, 0, 8, 0, 0, 0, 0, 0, 0];
 
-    // The answer, or 100 and more for a refusal's place.
-    fn stepped(controller: &mut Controller, moved: u8) -> usize {
-        match controller.step(moved) {
-            Ok(answer) => answer as usize,
-            Err(refusal) => 100usize.saturating_add(refusal.place()),
-        }
+    // The answer to a move, or the number and the place of a refusal.
+    fn stepped(controller: &mut Controller<'_>, moved: u8) -> Result<u8, (usize, usize)> {
+        controller
+            .step(moved)
+            .map_err(|refusal| (refusal.number(), refusal.place()))
     }
 
     #[test]
     fn a_forbidden_move_changes_nothing(rt: HostRuntime) -> Result<(), Fail> {
         let rules = Rules::read(&RULES)?;
         let mut controller = Controller::new(rules, Table::read(&rules, &TABLE)?, 0);
-        assert_eq!(rt; stepped(&mut controller, 1), 100);
+        assert_eq!(rt; stepped(&mut controller, 1), Err((11, 0)));
         assert_eq!(rt; (controller.state, controller.goal), (0, 0));
-        assert_eq!(rt; stepped(&mut controller, 0), 0);
+        assert_eq!(rt; stepped(&mut controller, 0), Ok(0));
         Ok(())
     }
 
@@ -41,8 +40,8 @@ mod tests {
     fn an_unknown_state_is_refused_after_a_forbidden_move(rt: HostRuntime) -> Result<(), Fail> {
         let rules = Rules::read(&RULES)?;
         let mut controller = Controller::new(rules, Table::read(&rules, &TABLE)?, 1);
-        assert_eq!(rt; stepped(&mut controller, 1), 101);
-        assert_eq!(rt; stepped(&mut controller, 0), 100);
+        assert_eq!(rt; stepped(&mut controller, 1), Err((11, 1)));
+        assert_eq!(rt; stepped(&mut controller, 0), Err((11, 0)));
         assert_eq!(rt; (controller.state, controller.goal), (1, 0));
         Ok(())
     }

@@ -1,12 +1,10 @@
 -- Loops that test number after number, as the code makes them, and the verdicts that they come to.
---   none_more, found, none_all, all_none   the first number at which a test fails: a step, the stop, and what none means
---   all_more, all_fails, all_end, all_stop, each   a test of each number below a bound
---   count_more, count_same                 a count
---   at_start, at_end, decides_verdict, sized       which verdict it is, and when it is acceptance
---   below, not_below, guard_then, guard_else       comparisons in the code
+--   none_all, all_none                     what it means that a test fails nowhere
+--   all_over, each                         a test of each number below a bound
+--   decides_verdict, sized                 when a verdict is acceptance
 --   under, implied, implies_by, and_assoc  tests that are asked only where another is true
-use Rattle.std.proofs.Common.{◌≡◌, ℕ, zero, suc, ◌+◌, ◌^◌, ◌<◌, ◌≤◌, Bool, true, false, cond, ◌&&◌, ltb, List, length, is_ok, Some, None, Ok, Err, Decides, Option, sym, refl, ap, ◌∙◌, ⊎_elim, add-one, arith}
-use Rattle.std.proofs.lemmas.Bool.{cases_lt, lt-ltb, le-ltb, ltb-true, ltb-false, and_left, and_right, false≢true}
+use Rattle.std.proofs.Common.{◌≡◌, ℕ, zero, suc, ◌+◌, ◌-◌, ◌^◌, ◌<◌, ◌≤◌, Bool, true, false, cond, not, ◌&&◌, ltb, List, length, is_ok, Some, None, Decides, Option, MatchOption, refl, ap, ◌∙◌, ⊎_elim, arith}
+use Rattle.std.proofs.lemmas.Bool.{cases_lt, ltb-true, ltb-false, false≢true}
 use Rattle.game.specs.declared.refusal.Refusal.{Refusal}
 use Rattle.game.specs.declared.refusal.Refusal.TheVariants.{UnknownStart, CutOff, GoesOn}
 use Rattle.game.specs.Content.{Content}
@@ -14,83 +12,69 @@ use Rattle.std.specs.Option.{option_map}
 use Rattle.game.specs.Finite.{all, implies}
 use Rattle.game.proofs.Tested.{decides_all}
 use Rattle.rows.specs.Rows.{missized}
-use Rattle.rows.specs.Faults.{earlier, first_failing, count_of, start_known, settled, verdict_of}
-
--- one more number that passes
-pub none_more : (test : ℕ → Bool) (n : ℕ) → first_failing n test ≡ None → test n ≡ true → first_failing (n + 1) test ≡ None
-none_more test n before here = rw (add-one, before, here) refl
-
--- the number at which the loop stops
-pub found : (test : ℕ → Bool) (n k : ℕ) → k < n → first_failing k test ≡ None → test k ≡ false → first_failing n test ≡ Some k
-found test zero k h before here = absurd (omega arith)
-found test (suc n) k h before here =
-    ⊎_elim
-    (λ l. rw (found test n k l before here) refl)
-    (λ l.
-    let e : n ≡ k = omega arith in
-    let b : first_failing n test ≡ None = ap (λ m. first_failing m test) e ∙ before in
-    let t : test n ≡ false = ap test e ∙ here in
-    rw (b, t) (ap Some e))
-    (cases_lt k n)
+use Rattle.std.specs.List.{find, list_all, range_with_len, FoldsTo}
+use Rattle.std.specs.Fn.{Called, Mut}
+use Rattle.std.specs.Iterator.{YieldsThen}
+use Rattle.std.specs.declared.ops.Range.{Range}
+use Rattle.std.proofs.iter.Yields.{nat_range_steps}
+use Rattle.std.proofs.lemmas.Iterator.{YieldsList-from_range}
+use Rattle.std.proofs.lemmas.Iterator.Search.{all_from_yields_List}
+use Rattle.rows.specs.Faults.{first_failing, count_of, start_known, settled, verdict_of}
 
 -- where none fails, each passes; and the other way round
-pub none_all : (test : ℕ → Bool) (n : ℕ) → first_failing n test ≡ None → (k : ℕ) → k < n → test k ≡ true
-none_all test zero e k h = absurd (omega arith)
-none_all test (suc n) e k h = by (first_failing n test) (test n) refl refl e (λ p l. none_all test n p k l)
+from_none : (test : ℕ → Bool) (a n : ℕ) → find (λ k. not (test k)) (range_with_len a n) ≡ None → (k : ℕ) → a ≤ k → k < a + n → test k ≡ true
+from_none test a zero e k h l = absurd (omega arith)
+from_none test a (suc n) e k h l = by (test a) refl e (λ p m. from_none test (a + 1) n p k m (omega arith))
   where
-    by : (o : Option ℕ) (t : Bool) → first_failing n test ≡ o → test n ≡ t → earlier o (cond t None (Some n)) ≡ None →
-        (first_failing n test ≡ None → k < n → test k ≡ true) → test k ≡ true
-    by (Some j) t p q e below = absurd (let z : ◌≡◌ {A = ℕ} 0 1 = cc in omega arith)
-    by None false p q e below = absurd (let z : ◌≡◌ {A = ℕ} 0 1 = cc in omega arith)
-    by None true p q e below = ⊎_elim (below p) (λ l. let same : k ≡ n = omega arith in ap test same ∙ q) (cases_lt k n)
+    by : (t : Bool) → test a ≡ t → cond (not t) (Some a) (find (λ i. not (test i)) (range_with_len (a + 1) n)) ≡ None →
+        (find (λ i. not (test i)) (range_with_len (a + 1) n) ≡ None → a + 1 ≤ k → test k ≡ true) → test k ≡ true
+    by false q e rest = cc
+    by true q e rest = ⊎_elim (λ m. rest e (omega arith)) (λ m. let same : k ≡ a = omega arith in ap test same ∙ q) (cases_lt a k)
+
+to_none : (test : ℕ → Bool) (a n : ℕ) → ((k : ℕ) → a ≤ k → k < a + n → test k ≡ true) → find (λ k. not (test k)) (range_with_len a n) ≡ None
+to_none test a zero each = refl
+to_none test a (suc n) each = rw (each a (omega arith) (omega arith), to_none test (a + 1) n (λ k h l. each k (omega arith) (omega arith))) refl
+
+pub none_all : (test : ℕ → Bool) (n : ℕ) → first_failing n test ≡ None → (k : ℕ) → k < n → test k ≡ true
+none_all test n e k h = from_none test 0 n e k (omega arith) (omega arith)
 
 pub all_none : (test : ℕ → Bool) (n : ℕ) → ((k : ℕ) → k < n → test k ≡ true) → first_failing n test ≡ None
-all_none test zero each = refl
-all_none test (suc n) each = rw (all_none test n (λ k h. each k (omega arith)), each n (omega arith)) refl
+all_none test n each = to_none test 0 n (λ k h l. each k (omega arith))
 
--- a loop that stops at the first failure of a test of each number below a bound
-pub all_more : (test : ℕ → Bool) (n : ℕ) → all n test ≡ true → test n ≡ true → all (n + 1) test ≡ true
-all_more test n before here = rw (add-one, here) before
+-- a test of all the numbers below a bound, which the code lists from the front on
+swap : (x y z : Bool) → (x && (y && z)) ≡ (y && (x && z))
+swap true y z = refl
+swap false true z = refl
+swap false false z = refl
 
-pub all_fails : (test : ℕ → Bool) (n k : ℕ) → k < n → test k ≡ false → all n test ≡ false
-all_fails test zero k h here = absurd (omega arith)
-all_fails test (suc n) k h here =
-    ⊎_elim
-    (λ l. and_right (test n) (all n test) (all_fails test n k l here))
-    (λ l. let e : n ≡ k = omega arith in and_left (test n) (all n test) (ap test e ∙ here))
-    (cases_lt k n)
+last_listed : (test : ℕ → Bool) (a n : ℕ) → list_all test (range_with_len a (suc n)) ≡ (test (a + n) && list_all test (range_with_len a n))
+last_listed test a zero = let e : a ≡ a + 0 = omega arith in ap (λ k. test k && true) e
+last_listed test a (suc n) =
+    let e : a + 1 + n ≡ a + suc n = omega arith in
+    ap (λ b. test a && b) (last_listed test (a + 1) n) ∙ swap (test a) (test (a + 1 + n)) (list_all test (range_with_len (a + 1) n))
+    ∙ ap (λ k. test k && (test a && list_all test (range_with_len (a + 1) n))) e
 
--- the end of such a loop, and where it stops; its bound is n in the code and m in the definition
-pub all_end : (test : ℕ → Bool) (i n m : ℕ) → n ≤ i → i ≤ n → n ≡ m → all i test ≡ true → true ≡ all m test
-all_end test i n m a b e h = let same : i ≡ m = omega arith in sym (ap (λ k. all k test) (sym same) ∙ h)
+all_listed : (test : ℕ → Bool) (n : ℕ) → list_all test (range_with_len 0 n) ≡ all n test
+all_listed test zero = refl
+all_listed test (suc n) =
+    let e : 0 + n ≡ n = omega arith in
+    last_listed test 0 n ∙ ap (λ k. test k && list_all test (range_with_len 0 n)) e ∙ ap (λ b. test n && b) (all_listed test n)
 
-pub all_stop : (test : ℕ → Bool) (n m k : ℕ) → n ≡ m → k < n → test k ≡ false → false ≡ all m test
-all_stop test n m k e h here = sym (all_fails test m k (omega arith) here)
+all_same : (f g : ℕ → Bool) (n : ℕ) → ((k : ℕ) → k < n → f k ≡ g k) → all n f ≡ all n g
+all_same f g zero h = refl
+all_same f g (suc n) h = rw (h n (omega arith), all_same f g n (λ k l. h k (omega arith))) refl
 
--- a loop that counts
-pub count_more : (test : ℕ → Bool) (n m : ℕ) → m ≡ count_of n test → test n ≡ true → m + 1 ≡ count_of (n + 1) test
-count_more test n m e here = rw (add-one n, here) (omega (arith, e))
-
-pub count_same : (test : ℕ → Bool) (n m : ℕ) → m ≡ count_of n test → test n ≡ false → m ≡ count_of (n + 1) test
-count_same test n m e here = rw (add-one n, here) (omega (arith, e))
-
--- the verdict where every state holds together: by the starts
-module _ (c : Content) (sound known : ℕ → Bool) (blame : ℕ → Refusal) (states : ℕ) (e : states ≡ 2 ^ c.state)
-    (fine : None ≡ first_failing states sound) where
-  pub at_start : (n k : ℕ) → length c.starts ≡ n → Some k ≡ first_failing n (start_known known c.starts) →
-      Err (UnknownStart k) ≡ verdict_of c sound known blame
-  at_start n k l u = rw (← e, ← fine, l, ← u) refl
-
-  pub at_end : (n m : ℕ) → length c.starts ≡ n → None ≡ first_failing n (start_known known c.starts) → m ≡ count_of states known →
-      Ok (record { known = m }) ≡ verdict_of c sound known blame
-  at_end n m l u k = rw (← e, ← fine, l, ← u, k) refl
-
--- a comparison in the code, of values that are known
-pub below : (a b x y : ℕ) → a ≡ x → b ≡ y → a < b → ltb x y ≡ true
-below a b x y p q h = lt-ltb x y (omega arith)
-
-pub not_below : (a b x y : ℕ) → a ≡ x → b ≡ y → b ≤ a → ltb x y ≡ false
-not_below a b x y p q h = le-ltb x y (omega arith)
+-- `all` over a range: the code's test is f and its bound n; those of the definition are g and m
+pub all_over : {F : Type 0} {calls : Mut F (ℕ × Unit {0}) Bool} (f g : ℕ → Bool) (n m : ℕ) {left : Range ℕ} {closure : F} {r : Bool} →
+    (xs : List ℕ) × (o : Option ℕ) × (j : F) × YieldsThen nat_range_steps (record { start = 0; end = n }) xs o left
+    × FoldsTo (λ p x q. Called calls p (x, tt) true q) closure xs j
+    × MatchOption o (r ≡ true) (λ x. (r ≡ false) × ((h : F) × Called calls j (x, tt) false h)) →
+    ((x : ℕ) (b : Bool) (q : F) → Called calls closure (x, tt) b q → (q ≡ closure) × (b ≡ f x)) → n ≡ m →
+    ((k : ℕ) → k < m → f k ≡ g k) → r ≡ all m g
+all_over f g n m ran test same each =
+    let whole : n - 0 ≡ n = omega arith in
+    all_from_yields_List f _ _ _ ran (YieldsList-from_range 0 n n refl whole) test
+    ∙ all_listed f n ∙ ap (λ k. all k f) same ∙ all_same f g m each
 
 no_fault : {o : Option ℕ} {k : ℕ} → o ≡ Some k → o ≡ None → ⊥
 no_fault p q = let z : ◌≡◌ {A = ℕ} 0 1 = cc in omega arith
@@ -136,13 +120,6 @@ under false f = refl
 pub and_assoc : (x y z : Bool) → (x && (y && z)) ≡ ((x && y) && z)
 and_assoc true y z = refl
 and_assoc false y z = refl
-
--- a test under a guard, which the code asks first; a count is n in the code and m in the definition
-pub guard_then : (i n m : ℕ) (b x : Bool) → b ≡ x → m ≡ n → i < n → b ≡ (ltb i m && x)
-guard_then i n m b x e k h = rw (lt-ltb i m (omega arith)) e
-
-pub guard_else : (i n m : ℕ) (x : Bool) → m ≡ n → n ≤ i → ltb i n ≡ (ltb i m && x)
-guard_else i n m x k h = rw (le-ltb i m (omega arith), le-ltb i n h) refl
 
 -- a test that is asked only where another is true
 pub implied : (b x : Bool) → implies b x ≡ true → b ≡ true → x ≡ true

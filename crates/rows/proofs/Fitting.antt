@@ -1,17 +1,19 @@
 -- Rows in a machine's numbers.
 --   rows_fit, row_fits, few    places and counts fit
 --   no_row, cut_row, row_is    what the code cuts out is the row; a row that holds something is one of the grid's
---   nth_start, no_start, length_starts, length_formulas   starts stand where they are read, and there are as many as counted
-use Rattle.std.proofs.Common.{◌≡◌, ℕ, zero, suc, ◌+◌, ◌*◌, ◌^◌, ◌<◌, ◌≤◌, min, Bool, true, false, cond, ◌&&◌, ltb, ◌⊎◌, List, [], length, get_or, take, drop, sym, refl, ap, ◌∙◌, ⊎_elim, arith}
+--   first_formulas             the formulas that count
+--   no_value, held_goal, kept_held  what lacks does not hold: a goal or a promise that holds is one of those that there are
+use Rattle.std.proofs.Common.{◌≡◌, ℕ, zero, suc, ◌+◌, ◌*◌, ◌^◌, ◌<◌, ◌≤◌, min, Bool, true, false, cond, ◌&&◌, ltb, ◌⊎◌, List, [], ◌∷◌, length, get_or, take, drop, sym, refl, ap, ◌∙◌, ⊎_elim, arith}
 use lib.Pow.{pow-lt}
 use Rattle.std.proofs.lemmas.Nat.{mul-le}
-use Rattle.std.proofs.lemmas.List.{get_or-drop}
-use Rattle.std.proofs.lemmas.Bool.{cases_lt, le-ltb, lt-ltb, ltb-true, and_left, and_right, and_from, cond-false, cond-true}
-use Rattle.game.specs.Content.{starts_of, formulas_of, other_formulas}
-use Rattle.game.proofs.FormulaSteps.{take_capped}
-use Rattle.game.proofs.Sections.{drop_capped}
+use Rattle.std.proofs.lemmas.Bool.{cases_lt, le-ltb, lt-ltb, ltb-true, and_left, and_right, and_from, cond-false, cond-true, false≢true}
+use Rattle.formula.specs.Reading.{forest}
+use Rattle.game.specs.Content.{Content, formulas_of}
+use Rattle.game.specs.Counterstrategy.{kept}
+use Rattle.game.specs.Meaning.{value_of, game_of}
+use Rattle.game.proofs.Sections.{nth_get_or, none_get_or}
 use Rattle.rows.specs.declared.row.Grid.{Grid}
-use Rattle.rows.specs.Rows.{pair_at, row_at}
+use Rattle.rows.specs.Rows.{row_at}
 
 pub rows_fit : (groups each size : ℕ) → groups < 256 → each < 4294967296 → size < 65536 → groups * each * size < 18446744073709551616
 rows_fit groups each size a b c =
@@ -34,36 +36,19 @@ no_row g bs j n h =
     (⊎_elim (λ l. and_left _ _ (le-ltb j g.groups l)) (λ l. and_right _ _ (le-ltb n g.each l)) h))
 
 -- what the code cuts out of the bytes
-pub cut_row : (g : Grid) (bs rest row : List ℕ) (j n : ℕ) → j < g.groups → n < g.each →
-    rest ≡ drop (min ((j * g.each + n) * g.size) (length bs)) bs → row ≡ take (min g.size (length rest)) rest → row ≡ row_at g bs j n
+pub cut_row : (g : Grid) (bs row : List ℕ) (j n : ℕ) → j < g.groups → n < g.each → row ≡ take g.size (drop ((j * g.each + n) * g.size) bs) →
+    row ≡ row_at g bs j n
 unfolding row_at
-cut_row g bs rest row j n a b x y =
-    y ∙ take_capped g.size rest ∙ ap (take g.size) (x ∙ drop_capped ((j * g.each + n) * g.size) bs)
-    ∙ sym (cond-true (ltb j g.groups && ltb n g.each) _ [] (and_from _ _ (lt-ltb j g.groups a) (lt-ltb n g.each b)))
+cut_row g bs row j n a b x =
+    x ∙ sym (cond-true (ltb j g.groups && ltb n g.each) _ [] (and_from _ _ (lt-ltb j g.groups a) (lt-ltb n g.each b)))
 
--- start i stands at the bytes 2 i and 2 i + 1
-pub nth_start : (n i : ℕ) (bs : List ℕ) → i < n → get_or (starts_of n bs) i 0 ≡ pair_at bs (2 * i)
-nth_start zero i bs h = absurd (omega arith)
-nth_start (suc n) zero bs h = refl
-nth_start (suc n) (suc i) bs h =
-    let low : 2 + 2 * i ≡ 2 * suc i = omega arith in
-    let high : 2 + (2 * i + 1) ≡ 2 * suc i + 1 = omega arith in
-    nth_start n i (drop 2 bs) (omega arith)
-    ∙ ap (λ x. x + 256 * get_or (drop 2 bs) (2 * i + 1) 0) (get_or-drop 2 bs (2 * i) 0 ∙ ap (λ k. get_or bs k 0) low)
-    ∙ ap (λ x. get_or bs (2 * suc i) 0 + 256 * x) (get_or-drop 2 bs (2 * i + 1) 0 ∙ ap (λ k. get_or bs k 0) high)
-
-pub no_start : (n i : ℕ) (bs : List ℕ) → n ≤ i → get_or (starts_of n bs) i 0 ≡ 0
-no_start zero i bs h = refl
-no_start (suc n) zero bs h = absurd (omega arith)
-no_start (suc n) (suc i) bs h = no_start n i (drop 2 bs) (omega arith)
-
-pub length_starts : (n : ℕ) (bs : List ℕ) → length (starts_of n bs) ≡ n
-length_starts zero bs = refl
-length_starts (suc n) bs = ap suc (length_starts n (drop 2 bs))
-
-pub length_formulas : (n : ℕ) (bs : List ℕ) → length (formulas_of n bs) ≡ n
-length_formulas zero bs = refl
-length_formulas (suc n) bs = ap suc (length_formulas n (other_formulas bs))
+-- the formulas that count are the first twelve
+pub first_formulas : (n k : ℕ) (bs : List ℕ) → k < 12 → get_or (formulas_of n bs) k [] ≡ get_or (formulas_of (min n 12) bs) k []
+first_formulas n k bs h =
+    ⊎_elim
+    (λ there. sym (nth_get_or n k bs there) ∙ nth_get_or (min n 12) k bs (omega arith))
+    (λ past. sym (none_get_or n k bs past) ∙ none_get_or (min n 12) k bs (omega arith))
+    (cases_lt k n)
 
 -- a number of states, moves or answers is within its limit
 pub few : (n bits most : ℕ) → n ≡ 2 ^ min bits most → n ≤ 2 ^ most
@@ -82,3 +67,24 @@ row_is g bs j n h = by (ltb j g.groups) (ltb n g.each) refl refl h
     by true true p q h = (ltb-true _ _ p, ltb-true _ _ q)
     by true false p q h = absurd (omega arith)
     by false b p q h = absurd (omega arith)
+
+-- a formula without bytes has no value
+pub no_value : (s e a : ℕ) → value_of [] s e a ≡ false
+unfolding forest
+no_value s e a = refl
+
+-- a formula that holds is one of the row's
+held : (fs : List (List ℕ)) (i s : ℕ) → value_of (get_or fs i []) s 0 0 ≡ true → i < length fs
+held [] i s h = absurd (false≢true (sym (no_value s 0 0) ∙ h))
+held (f ∷ fs) zero s h = omega arith
+held (f ∷ fs) (suc i) s h = let more = held fs i s h in omega arith
+
+pub held_goal : (c : Content) (j s : ℕ) → (game_of c).goal j s ≡ true → j < (game_of c).goals
+held_goal c j s h = held c.goals j s h
+
+pub kept_held : (c : Content) (i s : ℕ) → (game_of c).promise i s ≡ kept (game_of c) i s
+kept_held c i s = by ((game_of c).promise i s) refl
+  where
+    by : (b : Bool) → (game_of c).promise i s ≡ b → b ≡ (ltb i (length c.promises) && b)
+    by true e = sym (and_from _ _ (lt-ltb i (length c.promises) (held c.promises i s e)) refl)
+    by false e = sym (and_right (ltb i (length c.promises)) false refl)

@@ -5,27 +5,21 @@
 --   unless         a refusal that comes first
 --   settled        the first refusal that there is, or acceptance
 --   verdict_of     the verdict on reasons by the tests of their states
-use Rattle.std.specs.Prelude.{ℕ, zero, suc, ◌+◌, ◌^◌, Bool, cond, List, length, Some, None, Ok, Err, Option, Result, slice_index}
+use Rattle.std.specs.Prelude.{ℕ, ◌^◌, Bool, not, List, length, count_by, Some, None, Ok, Err, Option, Result, slice_index}
 use Rattle.std.specs.Option.{option_map}
+use Rattle.std.specs.List.{find, range_with_len}
 use Rattle.game.specs.declared.refusal.Refusal.{Refusal}
 use Rattle.game.specs.declared.refusal.Refusal.TheVariants.{UnknownStart}
 use Rattle.game.specs.Content.{Content}
 use Rattle.rows.specs.declared.judge.Accepted.{Accepted}
 
--- the first of two that is there
-abbrev pub earlier : {A : Type 0} → Option A → Option A → Option A
-earlier None o = o
-earlier (Some a) o = Some a
-
 -- the least number below n at which the test is false
 abbrev pub first_failing : ℕ → (ℕ → Bool) → Option ℕ
-first_failing zero test = None
-first_failing (suc n) test = earlier (first_failing n test) (cond (test n) None (Some n))
+first_failing n test = find (λ k. not (test k)) (range_with_len 0 n)
 
 -- how many numbers below n pass the test
 abbrev pub count_of : ℕ → (ℕ → Bool) → ℕ
-count_of zero test = 0
-count_of (suc n) test = cond (test n) 1 0 + count_of n test
+count_of n test = count_by test (range_with_len 0 n)
 
 -- whether start k is known
 abbrev pub start_known : (ℕ → Bool) → List ℕ → ℕ → Bool

@@ -2,15 +2,13 @@
 ghost use Rattle.rows.specs.Written.{RowWritten, RowsRead};
 
 // A row that was written among others is read as it was.
-pub fn row_written() -> u8
+#[tactic(auto, using(crate::proofs::Gathered::row_written))]
+pub fn row_written()
     ensures { RowWritten }
-{
-    0
-}
+{}
 
 // The rows that bytes hold, written again, are those bytes.
-pub fn rows_read() -> u8
+#[tactic(auto, using(crate::proofs::Gathered::rows_read))]
+pub fn rows_read()
     ensures { RowsRead }
-{
-    0
-}
+{}

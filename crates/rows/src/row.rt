@@ -1,5 +1,5 @@
 // Rows of one size, one after the other, in bytes that are lent: nothing is copied, and nothing is out of range.
-ghost use Rattle.std.specs.Prelude.{◌≡◌, ◌*◌, ◌==◌, slice_index};
+ghost use Rattle.std.specs.Prelude.{◌≡◌, ◌*◌, ◌==◌, take, drop, slice_index};
 ghost use Rattle.rows.specs.Rows.{pair_at, row_at, Reads};
 
 use game::refusal::Refusal;
@@ -25,16 +25,22 @@ pub struct Rows<'a> {
     pub bytes: &'a [u8],
 }
 
+// The bytes from a place on, so many or as far as there are any.
+#[tactic(auto, using(game::proofs::FormulaSteps::take_capped, game::proofs::Sections::drop_capped))]
+pub(crate) fn part<'a>(bytes: &'a [u8], from: usize, length: usize) -> &'a [u8]
+    ensures { result.now ≡ take length (drop from bytes.now) }
+{
+    let (_, rest) = bytes.split_at(from.min(bytes.len()));
+    let (part, _) = rest.split_at(length.min(rest.len()));
+    part
+}
+
 impl<'a> Row<'a> {
     // The byte at a place.
     pub fn byte(self, at: usize) -> u8
         ensures { result ≡ slice_index self.entry.bytes.now at }
     {
-        if at < self.bytes.len() {
-            self.bytes[at]
-        } else {
-            0
-        }
+        self.bytes.get(at).copied().unwrap_or(0)
     }
 
     // The number of the two bytes from a place on, the low one first.
@@ -42,7 +48,7 @@ impl<'a> Row<'a> {
         ensures { result ≡ pair_at self.entry.bytes.now at }
     {
         let at = at as usize;
-        self.byte(at) as u16 + 256 * self.byte(at + 1) as u16
+        u16::from_le_bytes([self.byte(at), self.byte(at + 1)])
     }
 
     // Whether the row is known: its first byte.
@@ -55,6 +61,7 @@ impl<'a> Row<'a> {
 
 impl<'a> Rows<'a> {
     // The rows that fill the bytes; or the bytes end too early, or go on.
+    #[tactic(auto, using(crate::proofs::Fitting::rows_fit))]
     pub fn read(bytes: &'a [u8], grid: Grid) -> Result<Rows<'a>, Refusal>
         ensures { Reads grid bytes.now result }
     {
@@ -71,6 +78,7 @@ impl<'a> Rows<'a> {
     }
 
     // Row n of a group; an empty one where there is none.
+    #[tactic(auto, using(crate::proofs::Fitting::row_fits, crate::proofs::Fitting::no_row, crate::proofs::Fitting::cut_row))]
     pub fn row(self, group: u8, n: u32) -> Row<'a>
         ensures { result.bytes.now ≡ row_at self.entry.grid self.entry.bytes.now group n }
     {
@@ -79,8 +87,8 @@ impl<'a> Rows<'a> {
         }
         let size = self.grid.size as usize;
         let at = (group as usize * self.grid.each as usize + n as usize) * size;
-        let (_, rest) = self.bytes.split_at(at.min(self.bytes.len()));
-        let (row, _) = rest.split_at(size.min(rest.len()));
-        Row { bytes: row }
+        Row {
+            bytes: part(self.bytes, at, size),
+        }
     }
 }

@@ -3,6 +3,7 @@
 
 #[cfg(test)]
 mod tests {
+    use checks_test::changed;
     use game::rules::Rules;
     use std::test::Fail;
 
@@ -12,26 +13,15 @@ mod tests {
         1, 1, 1, 1, 1, 3, 5, 32, 48, 1, 48, 1, 1, 16, 1, 1, 16, 1, 0, 0,
     ];
 
-    // The number and the place that a file is refused with; 0 and 0 where it is read.
-    fn fault(file: &[u8]) -> (usize, usize) {
-        match Rules::read(file) {
-            Ok(_) => (0, 0),
-            Err(refusal) => (refusal.number(), refusal.place()),
-        }
-    }
-
-    // The same with one byte of the good file changed.
-    fn changed(at: usize, byte: u8) -> (usize, usize) {
-        let mut file = GOOD;
-        if at < 20 {
-            file[at] = byte;
-        }
-        fault(&file)
+    // The number and the place that a file is refused with; nothing where it is read.
+    fn fault(file: &[u8]) -> Option<(usize, usize)> {
+        let refusal = Rules::read(file).err()?;
+        Some((refusal.number(), refusal.place()))
     }
 
     #[test]
     fn reads_the_good_file(rt: HostRuntime) {
-        assert_eq!(rt; fault(&GOOD), (0, 0));
+        assert_eq!(rt; fault(&GOOD), None);
     }
 
     #[test]
@@ -68,14 +58,14 @@ mod tests {
             (19, 1, (6, 18)),
         ];
         for (at, byte, expected) in cases {
-            assert_eq!(rt; changed(at, byte), expected);
+            assert_eq!(rt; fault(&changed(GOOD, at, byte)), Some(expected));
         }
     }
 
     #[test]
     fn refuses_each_cut_at_the_length(rt: HostRuntime) {
-        for n in 0..20 {
-            assert_eq!(rt; fault(&GOOD[0..n]), (1, n));
+        for n in 0..GOOD.len() {
+            assert_eq!(rt; fault(&GOOD[0..n]), Some((1, n)));
         }
     }
 
@@ -85,7 +75,7 @@ mod tests {
             fault(&[
                 1, 1, 1, 1, 1, 3, 5, 32, 48, 1, 48, 1, 1, 16, 1, 1, 16, 1, 0, 0, 7, 7,
             ]),
-            (1, 20)
+            Some((1, 20))
         );
     }
 
@@ -93,11 +83,11 @@ mod tests {
     #[test]
     fn refuses_the_first_fault_of_a_formula(rt: HostRuntime) {
         // cut off by the file with an operand lacking; with a formula that ended before; with a bad byte before the cut
-        assert_eq!(rt; fault(&[1, 1, 1, 1, 1, 9, 3, 32]), (1, 8));
-        assert_eq!(rt; fault(&[1, 1, 1, 1, 1, 9, 32]), (4, 5));
-        assert_eq!(rt; fault(&[1, 1, 1, 1, 1, 9, 3, 99]), (3, 7));
+        assert_eq!(rt; fault(&[1, 1, 1, 1, 1, 9, 3, 32]), Some((1, 8)));
+        assert_eq!(rt; fault(&[1, 1, 1, 1, 1, 9, 32]), Some((4, 5)));
+        assert_eq!(rt; fault(&[1, 1, 1, 1, 1, 9, 3, 99]), Some((3, 7)));
         // a bad byte after the formula's own end is no byte of the formula; one before it counts first
-        assert_eq!(rt; fault(&[1, 1, 1, 1, 1, 4, 32, 99, 1, 1]), (4, 5));
-        assert_eq!(rt; fault(&[1, 1, 1, 1, 1, 2, 3, 99]), (3, 7));
+        assert_eq!(rt; fault(&[1, 1, 1, 1, 1, 4, 32, 99, 1, 1]), Some((4, 5)));
+        assert_eq!(rt; fault(&[1, 1, 1, 1, 1, 2, 3, 99]), Some((3, 7)));
     }
 }

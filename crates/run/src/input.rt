@@ -1,7 +1,7 @@
 // Moves from standard input: all at once, or one to a line. No read goes on for ever.
 use std::alloc::{AllocError, Global};
 use std::io;
-use std::io::Read;
+use std::io::{BufRead, Read};
 
 // The most moves of one run, and the most bytes of a line.
 pub const MOST_MOVES: u64 = 1 << 24;
@@ -16,21 +16,14 @@ pub fn moves(rt: &HostRuntime) -> io::Result<Vec<u8>> {
 }
 
 // The next line, without its end; nothing at the end of input. Of a line that is too long, the rest is the next line.
-pub fn line(rt: &HostRuntime) -> io::Result<Option<Vec<u8>>> {
-    let mut bytes = Vec::new(rt.alloc());
-    for _ in 0..MOST_LINE {
-        let mut byte = [0u8; 1];
-        if rt.stdin().read(&mut byte)? == 0 {
-            return if bytes.is_empty() {
-                Ok(None)
-            } else {
-                Ok(Some(bytes))
-            };
-        }
-        if byte[0] == b'\n' {
-            return Ok(Some(bytes));
-        }
-        bytes.push(byte[0])?;
+pub fn line(input: &mut impl BufRead, heap: Global) -> io::Result<Option<Vec<u8>>> {
+    let mut bytes = Vec::new(heap);
+    let mut line = input.by_ref().take(MOST_LINE);
+    if line.read_until(b'\n', &mut bytes)? == 0 {
+        return Ok(None);
+    }
+    if bytes.last() == Some(&b'\n') {
+        bytes.pop();
     }
     Ok(Some(bytes))
 }
@@ -42,8 +35,7 @@ pub fn spaced(answers: &[u8], heap: Global) -> Result<String, AllocError> {
         if i > 0 {
             text.push(' ')?;
         }
-        let number = format!(in heap; "{answer}")?;
-        text.push_str(number.as_str())?;
+        write!(text, "{answer}")?;
     }
     Ok(text)
 }

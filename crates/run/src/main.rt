@@ -4,11 +4,14 @@
 mod input;
 mod order;
 
-use anyhow::anyhow;
+use cli::failure::Failure;
+use cli::{MOST_REASONS, Program};
 use controller::Controller;
 use game::rules::{MOST_FILE, Rules};
-use order::{Order, start_number};
+use order::{Order, Source, start_number};
 use play::recording::record;
+use std::io;
+use std::io::BufReader;
 use std::process::ExitCode;
 
 const USAGE: &str =
@@ -24,103 +27,92 @@ The table is checked first; one that does not hold together, or that does not kn
 What is refused prints 'refused N at P', and the status is 1. Of a step: 11 at 0, a move that the environment may not make.
 solve --help and check --help say what the other numbers are.";
 
-// The most bytes of a table: 8 goals, 4096 states, 64 moves.
-const MOST_TABLE: u64 = 8 * 4096 * (4 + 64);
+struct Runner;
+
+impl Program for Runner {
+    const NAME: &'static str = "run";
+
+    fn work<'w>(rt: &HostRuntime, words: &'w [String]) -> Result<(), Failure<'w>> {
+        match words {
+            [word] if word.as_str() == "--help" => Ok(rt.println(HELP)?),
+            _ => match Order::parse(words) {
+                Some(order) => run(rt, order),
+                None => Err(Failure::Misused {
+                    program: Self::NAME,
+                    usage: USAGE,
+                }),
+            },
+        }
+    }
+}
+
+fn main(rt: HostRuntime) -> ExitCode {
+    cli::run::<Runner>(&rt)
+}
+
+// Runs the controller of the table, once it is accepted.
+fn run<'a>(rt: &HostRuntime, order: Order<'a>) -> Result<(), Failure<'a>> {
+    let file = cli::load(rt, order.rules, MOST_FILE)?;
+    let table = cli::load(rt, order.table, MOST_REASONS)?;
+    let rules = Rules::read(&file)?;
+    let count = rules.starts.count;
+    let text = order.start;
+    let start = start_number(text, count).ok_or(Failure::NoStart { text, count })?;
+    let controller = Controller::accepted(rules, &table, start)?;
+    match order.source {
+        Source::Asked => Ok(ask(rt, controller)?),
+        Source::Piped { log } => play_moves(rt, controller, log),
+    }
+}
 
 // Runs the controller over all moves of standard input, and prints and logs what it did.
-fn play_moves(rt: &HostRuntime, controller: Controller, log: Option<&str>) -> anyhow::Result<()> {
+fn play_moves<'a>(
+    rt: &HostRuntime,
+    controller: Controller<'_>,
+    log: Option<&'a str>,
+) -> Result<(), Failure<'a>> {
     let moves = input::moves(rt)?;
     let most = input::MOST_MOVES;
     if moves.len() as u64 > most {
-        eprintln!(rt; "run: more than {most} moves on standard input; give fewer")?;
-        return Err(anyhow!("moves"));
+        return Err(Failure::TooManyMoves { most });
     }
     let recording = record(controller, moves.as_slice(), rt.alloc())?;
     if let Some(path) = log {
-        cli::save(rt, "run", path, recording.log.as_slice())?;
+        cli::save(rt, path, recording.log.as_slice())?;
     }
     let line = input::spaced(recording.ran.answers.as_slice(), rt.alloc())?;
     println!(rt; "{line}")?;
     match recording.ran.refusal {
         None => Ok(()),
-        Some(refusal) => cli::refused(rt, refusal),
+        Some(refusal) => Err(Failure::Refused(refusal)),
     }
 }
 
 // Takes the move that a line of text names, and shows what comes of it.
-fn try_line(rt: &HostRuntime, controller: &mut Controller, line: &[u8]) -> anyhow::Result<()> {
-    let moved = match std::str::from_utf8(line) {
-        Ok(text) => text.trim().parse::<u8>().ok(),
-        Err(_) => None,
-    };
-    let Some(moved) = moved else {
-        println!(rt; "write a move as a number, 0 to 63")?;
-        return Ok(());
-    };
-    match controller.step(moved) {
-        Ok(answer) => println!(rt; "answer {answer}")?,
-        Err(refusal) => {
-            let number = refusal.number();
-            let place = refusal.place();
-            println!(rt; "refused {number} at {place}")?;
-        }
+fn try_line(rt: &HostRuntime, controller: &mut Controller<'_>, line: &[u8]) -> io::Result<()> {
+    let moved = std::str::from_utf8(line)
+        .ok()
+        .and_then(|text| text.trim().parse::<u8>().ok());
+    match moved.map(|moved| controller.step(moved)) {
+        Some(Ok(answer)) => println!(rt; "answer {answer}"),
+        Some(Err(refusal)) => rt.println(refusal),
+        None => rt.println("write a move as a number, 0 to 63"),
     }
-    Ok(())
 }
 
 // Asks for moves one by one, until the end of input.
-fn ask(rt: &HostRuntime, mut controller: Controller) -> anyhow::Result<()> {
+fn ask(rt: &HostRuntime, mut controller: Controller<'_>) -> io::Result<()> {
+    let heap = rt.alloc();
+    let mut input = BufReader::new(heap, rt.reader())?;
+    // a bound, since each loop has to end, and the input need not
     for _ in 0..u64::MAX {
         let state = controller.state;
         let goal = controller.goal;
         print!(rt; "state {state}, goal {goal}, move? ")?;
-        match input::line(rt)? {
-            Some(line) => try_line(rt, &mut controller, line.as_slice())?,
-            None => break,
-        }
+        let Some(line) = input::line(&mut input, heap)? else {
+            break;
+        };
+        try_line(rt, &mut controller, line.as_slice())?;
     }
-    println!(rt; "")?;
-    Ok(())
-}
-
-fn run(rt: &HostRuntime, order: Order) -> anyhow::Result<()> {
-    let file = cli::load(rt, "run", order.rules, MOST_FILE)?;
-    let table = cli::load(rt, "run", order.table, MOST_TABLE)?;
-    let rules = match Rules::read(&file) {
-        Ok(rules) => rules,
-        Err(refusal) => return cli::refused(rt, refusal),
-    };
-    let count = rules.starts.count;
-    let Some(start) = start_number(order.start, count) else {
-        let text = order.start;
-        eprintln!(rt; "run: {text} is no start: the rules have {count}, and the first is 0")?;
-        return Err(anyhow!("start"));
-    };
-    match Controller::accepted(rules, &table, start) {
-        Ok(controller) => {
-            if order.ask {
-                ask(rt, controller)
-            } else {
-                play_moves(rt, controller, order.log)
-            }
-        }
-        Err(refusal) => cli::refused(rt, refusal),
-    }
-}
-
-// What the command line asks for.
-fn work(rt: &HostRuntime) -> anyhow::Result<()> {
-    let words = cli::words(rt)?;
-    if words.len() == 1 && words[0].as_str() == "--help" {
-        rt.println(HELP)?;
-        return Ok(());
-    }
-    match Order::parse(&words) {
-        Some(order) => run(rt, order),
-        None => cli::misused(rt, "run", USAGE),
-    }
-}
-
-fn main(rt: HostRuntime) -> ExitCode {
-    cli::ending(work(&rt))
+    println!(rt; "")
 }

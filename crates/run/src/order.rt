@@ -1,50 +1,53 @@
 // What the arguments of `run` ask for.
 ghost use Rattle.std.specs.Prelude.{◌<◌, IfSome};
 
-// Two files, the number of a start as it was written, the file for the log, and whether a person is asked for the moves.
-#[derive(Clone, Copy)]
+// Where the moves come from.
+#[derive(Clone, Copy, PartialEq, Eq, Debug)]
+pub enum Source<'a> {
+    // a person is asked for each
+    Asked,
+    // all of standard input, with a file for the log of the play, if one is named
+    Piped { log: Option<&'a str> },
+}
+
+// Two files, the number of a start as it was written, and where the moves come from.
+#[derive(Clone, Copy, PartialEq, Eq, Debug)]
 pub struct Order<'a> {
     pub rules: &'a str,
     pub table: &'a str,
     pub start: &'a str,
-    pub log: Option<&'a str>,
-    pub ask: bool,
+    pub source: Source<'a>,
 }
 
 impl<'a> Order<'a> {
     // What the words ask for; nothing where they are no such order.
-    pub fn parse(words: &'a Vec<String>) -> Option<Order<'a>> {
-        if words.len() < 2 {
+    pub fn parse(words: &'a [String]) -> Option<Order<'a>> {
+        let [rules, table, options @ ..] = words else {
             return None;
-        }
-        let mut order = Order {
-            rules: words[0].as_str(),
-            table: words[1].as_str(),
-            start: "0",
-            log: None,
-            ask: false,
         };
-        let mut i = 2;
-        while i < words.len() {
-            let word = words[i].as_str();
-            let rest = words.len() - i;
-            if word == "--ask" {
-                order.ask = true;
-                i += 1;
-            } else if word == "--start" && rest > 1 {
-                order.start = words[i + 1].as_str();
-                i += 2;
-            } else if word == "--log" && rest > 1 {
-                order.log = Some(words[i + 1].as_str());
-                i += 2;
-            } else {
-                return None;
+        let mut start = None;
+        let mut log = None;
+        let mut ask = false;
+        let mut options = options.iter();
+        while let Some(option) = options.next() {
+            match option.as_str() {
+                "--ask" => ask = true,
+                "--start" => start = Some(options.next()?.as_str()),
+                "--log" => log = Some(options.next()?.as_str()),
+                _ => return None,
             }
         }
-        if order.ask && order.log.is_some() {
-            return None;
-        }
-        Some(order)
+        let source = match (ask, log) {
+            (true, Some(_)) => return None,
+            (true, None) => Source::Asked,
+            (false, log) => Source::Piped { log },
+        };
+        Some(Order {
+            rules: rules.as_str(),
+            table: table.as_str(),
+            start: start.unwrap_or("0"),
+            source,
+        })
     }
 }
 
@@ -52,8 +55,5 @@ impl<'a> Order<'a> {
 pub fn start_number(text: &str, count: u8) -> Option<u8>
     ensures { IfSome result (λ n. n < count) }
 {
-    match text.parse::<u8>() {
-        Ok(n) => { if n < count { Some(n) } else { None } }
-        Err(_) => None,
-    }
+    text.parse::<u8>().ok().filter(|n| *n < count)
 }

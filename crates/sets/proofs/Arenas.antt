@@ -1,13 +1,14 @@
 -- What the arena's tables say of its game.
 --   legal_bit, allowed_bit      in range, a move is legal and an answer allowed as its bit says
---   place_move, place_answer    where the entries of a move and of an answer stand
+--   place_move                  where the entry of a move stands
 --   move_below, answer_below    legal moves and allowed answers are in range
 --   after_below                 the state after is a state
 --   promises_is, goals_is       how many promises and goals there are
 use Rattle.std.proofs.Common.{◌≡◌, ℕ, ◌+◌, ◌*◌, ◌<◌, true, ltb, get_or, refl, subst, mul_comm, ltb-true, lt-ltb}
 use Rattle.std.proofs.lemmas.Nat.{mul-add-lt}
 use Rattle.std.proofs.lemmas.Bool.{and_parts}
-use Rattle.sets.specs.Arena.{arena_game, bit}
+use Rattle.formula.specs.Bits.{bit}
+use Rattle.sets.specs.Arena.{arena_game}
 use Rattle.sets.specs.declared.arena.Arena.{Arena}
 
 pub legal_bit : (a : Arena) (s e : ℕ) → s < a.states → e < a.moves →
@@ -23,9 +24,6 @@ allowed_bit a s e k hs he hk =
 
 pub place_move : (s m e n : ℕ) → s < n → e < m → s * m + e < n * m
 place_move s m e n hs he = subst (λ (x : ℕ). s * m + e < x) (mul_comm m n) (mul-add-lt s m e n hs he)
-
-pub place_answer : (s m e n a k : ℕ) → s < n → e < m → a < k → (s * m + e) * k + a < n * m * k
-place_answer s m e n a k hs he ha = place_move (s * m + e) k a (n * m) (place_move s m e n hs he) ha
 
 pub move_below : (a : Arena) (s e : ℕ) → (arena_game a).moves s e ≡ true → (s < a.states) × (e < a.moves)
 unfolding arena_game

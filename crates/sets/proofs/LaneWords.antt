@@ -1,18 +1,19 @@
 -- Words of lanes: the lanes that are in range, and what a mask leaves of values.
 use Rattle.std.proofs.Common.{◌≡◌, ℕ, ◌^◌, ◌<◌, Bool, true, false, ◌&&◌, ltb, List, [], ◌∷◌, get_or, refl, lt-ltb}
 use lib.Bits.{bit_and}
+use Rattle.std.proofs.lemmas.Bool.{agree_below, agree_below_at}
 use Rattle.formula.specs.Bits.{bit}
 use Rattle.formula.specs.Values.{Spread}
 use Rattle.formula.proofs.BitLaws.{bit_of_and}
-use Rattle.formula.proofs.Masks.{agree, each_decides}
 
 abbrev pub first : List ℕ
 first = 1 ∷ 3 ∷ 15 ∷ 255 ∷ 65535 ∷ 4294967295 ∷ 18446744073709551615 ∷ []
 
 -- word k has the lanes below 2 ^ k
 pub first_lanes : (k : ℕ) → k < 7 → (l : ℕ) → l < 64 → bit (get_or first k 0) l ≡ ltb l (2 ^ k)
-first_lanes =
-    (each_decides _ _ (λ k. each_decides _ _ (λ l. agree (bit (get_or first k 0) l) (ltb l (2 ^ k))) 64) 7).0 refl
+first_lanes k h l i =
+    agree_below_at (bit (get_or first k 0)) (λ l. ltb l (2 ^ k)) 64 l
+    (agree_below_at (λ k. agree_below (bit (get_or first k 0)) (λ l. ltb l (2 ^ k)) 64) (λ _. true) 7 k refl h) i
 
 swap : (x y : Bool) → (x && y) ≡ (y && x)
 swap true true = refl

@@ -1,14 +1,11 @@
 -- Four numbers in a word: bits set apart, numbers doubled, and fields read; and the numbers that formulas spell.
-use Rattle.std.proofs.Common.{◌≡◌, ℕ, zero, suc, ◌+◌, ◌-◌, ◌*◌, ◌/◌, ◌%◌, ◌^◌, ◌<◌, ◌≤◌, min, Bool, true, false, cond, ◌&&◌, eqb, ◌≢◌, List, [], ◌∷◌, length, get_or, set, sym, refl, ap, ◌∙◌, subst, ⊎_elim, pow-suc, arith, pow_mono}
+use Rattle.std.proofs.Common.{◌≡◌, ℕ, zero, suc, ◌+◌, ◌-◌, ◌*◌, ◌/◌, ◌%◌, ◌^◌, ◌<◌, ◌≤◌, min, Bool, true, false, cond, ◌&&◌, eqb, eqb-true, List, [], ◌∷◌, length, get_or, sym, refl, ap, ◌∙◌, subst, pow-suc, arith, pow_mono}
 use lib.Bits.{bit_and}
 use Rattle.std.proofs.lemmas.Nat.{shr-shr}
-use Rattle.std.proofs.lemmas.List.{get_or-set_same, get_or-set_other}
-use Rattle.std.proofs.lemmas.Bool.{cases_eq}
-use Rattle.std.proofs.lemmas.Bool.Decides.{Decides-eqb}
+use Rattle.std.proofs.lemmas.Bool.{agree_below_at}
 use Rattle.formula.specs.Bits.{bit}
 use Rattle.formula.specs.Values.{Spread}
 use Rattle.formula.proofs.BitLaws.{bit_of_and}
-use Rattle.formula.proofs.Masks.{each_decides}
 use Rattle.game.specs.Content.{first_formula, other_formulas, formulas_of}
 use Rattle.game.specs.Meaning.{value_of, number}
 use Rattle.game.proofs.Sections.{number_step}
@@ -22,7 +19,7 @@ apart =
     ∷ 281474976776193 ∷ 281479271677952 ∷ 281479271677953 ∷ 281479271743488 ∷ 281479271743489 ∷ []
 
 table : (x : ℕ) → x < 16 → get_or apart x 0 ≡ four (digit x) 0
-table = (each_decides _ _ (λ x. Decides-eqb (get_or apart x 0) (four (digit x) 0)) 16).0 refl
+table x h = eqb-true _ _ (agree_below_at (λ x. eqb (get_or apart x 0) (four (digit x) 0)) (λ _. true) 16 x refl h)
 
 -- bit j of four bits from 4·q on
 low_bit : (w q j : ℕ) → (w / 2 ^ (4 * q) % 16) / 2 ^ j % 2 ≡ w / 2 ^ (4 * q) / 2 ^ j % 2 →
@@ -65,20 +62,6 @@ four_fits g w l b =
 pub record Half (values q : ℕ) (before now : List ℕ) : Type 0 where
   pub done : (k : ℕ) → k < q → get_or now k 0 ≡ 2 * get_or before k 0 + four (digit values) (4 * k)
   pub left : (k : ℕ) → q ≤ k → get_or now k 0 ≡ get_or before k 0
-
-pub half_none : (values : ℕ) (before : List ℕ) → Half values 0 before before
-half_none values before = record { done = λ k h. absurd (omega arith); left = λ k h. refl }
-
-pub half_more : (values q x : ℕ) (before now : List ℕ) → q < length now → Half values q before now →
-    x ≡ 2 * get_or now q 0 + four (digit values) (4 * q) → Half values (q + 1) before (set now q x)
-half_more values q x before now h half e =
-    record {
-      done = λ k l. ⊎_elim
-          (λ (same : k ≡ q). rw (same, get_or-set_same now q x 0 h) (e ∙ ap (λ n. 2 * n + four (digit values) (4 * q)) (half.left q (omega arith))))
-          (λ other. get_or-set_other now q k x 0 other ∙ half.done k (omega arith))
-          (cases_eq k q);
-      left = λ k l. let other : k ≢ q = omega arith in get_or-set_other now q k x 0 other ∙ half.left k (omega arith);
-    }
 
 -- ---- fields read
 

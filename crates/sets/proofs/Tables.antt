@@ -1,5 +1,5 @@
 -- Tables that are filled entry by entry, and the formulas that hold in a state.
-use Rattle.std.proofs.Common.{◌≡◌, ℕ, zero, suc, ◌+◌, ◌-◌, ◌*◌, ◌/◌, ◌%◌, ◌^◌, ◌<◌, ◌≤◌, min, Bool, true, false, cond, ◌&&◌, eqb, List, [], length, get_or, take, drop, set, sym, ap, ◌∙◌, subst, ⊎_elim, add-mul, arith, pow_mono, rules, eq-eqb, ne_eqb}
+use Rattle.std.proofs.Common.{◌≡◌, ℕ, zero, suc, ◌+◌, ◌-◌, ◌*◌, ◌/◌, ◌%◌, ◌^◌, ◌<◌, ◌≤◌, min, Bool, true, false, cond, ◌&&◌, eqb, List, [], length, get_or, take, drop, set, sym, ap, ◌∙◌, subst, ⊎_elim, add-mul, arith, pow_mono, rules}
 use borrow.Rule.Slice.PartMut.{put_mid}
 use Rattle.std.proofs.lemmas.Nat.{shr-shr, pow_pos, div_below, mod_below, mul-le, mul-add-lt}
 use Rattle.std.proofs.lemmas.List.{get_or-set_same, get_or-set_other, places}
@@ -37,11 +37,11 @@ pub entry_move : (k b m : ℕ) → m ≡ 2 ^ b → k % m < 2 ^ b
 entry_move k b m e = rw e (mod_below k (2 ^ b) (pow_pos b))
 
 -- the values of an entry, where its move is legal; and none where it is not
-pub given_legal : (x w i : ℕ) (v : ℕ → Bool) → w / 2 ^ i % 2 ≡ 1 → Spread x v → Spread x (λ a. bit w i && v a)
-given_legal x w i v legal values l h = rw (eq-eqb (w / 2 ^ i % 2) 1 legal) (values l h)
+pub given_legal : (x : ℕ) (b legal : Bool) (v : ℕ → Bool) → b ≡ legal → b ≡ true → Spread x v → Spread x (λ a. legal && v a)
+given_legal x b legal v e t values l h = rw (← e, t) (values l h)
 
-pub not_legal : (x w i : ℕ) (v : ℕ → Bool) → (w / 2 ^ i % 2 ≡ 1 → ⊥) → x ≡ 0 → Spread x (λ a. bit w i && v a)
-not_legal x w i v illegal none l h = rw (ne_eqb (w / 2 ^ i % 2) 1 illegal, none) (zero_lane l)
+pub not_legal : (x : ℕ) (b legal : Bool) (v : ℕ → Bool) → b ≡ legal → b ≡ false → x ≡ 0 → Spread x (λ a. legal && v a)
+not_legal x b legal v e f none l h = rw (← e, f, none) (zero_lane l)
 
 -- ---- rows of answers
 

@@ -1,13 +1,9 @@
 -- The game that an arena tabulates. Assumes nothing.
---   bit          bit i of a number
 --   arena_game   the game of an arena
-use Rattle.std.specs.Prelude.{ℕ, ◌+◌, ◌*◌, ◌/◌, ◌%◌, ◌^◌, Bool, ◌&&◌, ◌==◌, nat_lt, slice_index}
+use Rattle.std.specs.Prelude.{◌+◌, ◌*◌, ◌&&◌, nat_lt, slice_index}
+use Rattle.formula.specs.Bits.{bit}
 use Rattle.game.specs.Game.{Game}
 use Rattle.sets.specs.declared.arena.Arena.{Arena}
-
--- bit i of x
-abbrev pub bit : ℕ → ℕ → Bool
-bit x i = x / 2 ^ i % 2 == 1
 
 -- Moves and answers out of range are none, so that loops over the ranges decide facts of all numbers.
 unfoldable pub arena_game : Arena → Game

@@ -30,6 +30,7 @@ const APART: [u64; 16] = [
 ];
 
 // The lanes 4·q to 4·q + 3 of a word, each in a field of its own.
+#[tactic(auto, using(crate::proofs::Packings::apart_digits))]
 fn apart(word: u64, q: usize) -> u64
     requires { q < 16 }
     ensures { result ≡ four (digit word) (4 * q) }
@@ -46,21 +47,19 @@ pub(crate) fn field_of(word: u64, j: usize) -> u16
 }
 
 // Doubles the number of each lane and adds the lane's bit in `values`.
-fn double(packed: &mut [u64], values: u64)
-    requires room { length packed.old ≡ 16 }
-    requires fits { FitsDoubled values packed.old }
+fn double(packed: &mut [u64; WORDS], values: u64)
+    requires { FitsDoubled values packed.old }
     ensures { Doubled values packed.old packed.new }
 {
-    for q in 0..WORDS {
-        packed[q] = 2 * packed[q] + apart(values, q);
+    for (q, word) in packed.iter_mut().enumerate() {
+        *word = 2 * *word + apart(values, q);
     }
 }
 
 // In each lane of the mask the number whose bits are the values of the first n formulas, the lowest first; 0 in the
 // other lanes. The highest bit comes first, so that each formula doubles the numbers and adds its values.
-pub(crate) fn spell(bytes: &[u8], n: u8, step: Answers, mask: u64, packed: &mut [u64])
-    requires few { n ≤ 16 }
-    requires room { length packed.old ≡ 16 }
+pub(crate) fn spell(bytes: &[u8], n: u8, step: Answers, mask: u64, packed: &mut [u64; WORDS])
+    requires { n ≤ 16 }
     ensures { Spelt (formulas_of n bytes.now) step.state step.moved mask packed.new }
 {
     if n == 0 {
@@ -69,5 +68,5 @@ pub(crate) fn spell(bytes: &[u8], n: u8, step: Answers, mask: u64, packed: &mut 
     }
     let (first, others) = cut(bytes);
     spell(others, n - 1, step, mask, packed);
-    double(packed, first.values(&step) & mask);
+    double(packed, step.values(first) & mask);
 }

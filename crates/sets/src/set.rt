@@ -1,8 +1,9 @@
-// Sets of states in lent memory: one cell a state, read and written by these two functions only.
+// Sets of states in lent memory: one cell a state, read and written by these functions only.
 ghost use Rattle.std.specs.Prelude.{◌≡◌, ◌<◌};
 ghost use Rattle.sets.specs.Member.{member, room, Put, Filled};
 
 // Whether the state `s` is in the set.
+#[tactic(auto, unfolding(crate::specs::Member::member))]
 pub fn has(cells: &[u8], s: usize) -> bool
     requires { s < room cells.now }
     ensures { result ≡ member cells.now s }
@@ -19,6 +20,7 @@ pub fn put(cells: &mut [u8], s: usize, inside: bool)
 }
 
 // Puts every state into the set, or takes every state out.
+#[tactic(auto, using(crate::proofs::Members::member_filled))]
 pub fn fill(cells: &mut [u8], inside: bool)
     ensures { Filled cells.old inside cells.new }
 {

@@ -1,5 +1,8 @@
 // What the arena says of a state, a move and an answer, and one step back (the controllable predecessor).
+#![tactic(auto, unfolding(crate::specs::Arena::arena_game))]
+
 ghost use Rattle.std.specs.Prelude.{◌≡◌, ◌<◌, Decides};
+ghost use Rattle.formula.specs.Bits.{bit};
 ghost use Rattle.sets.specs.Arena.{arena_game};
 ghost use Rattle.sets.specs.Member.{member, room, In};
 ghost use Rattle.sets.specs.Step.{Cpre, Forced};
@@ -7,6 +10,17 @@ ghost use Rattle.sets.specs.Step.{Cpre, Forced};
 use super::arena::Arena;
 use super::set::has;
 
+// Bit i of a table's entry. The crate formula's `has_bit` also takes places past the word, and that test makes a step
+// back take a third longer.
+fn bit_of(entry: u64, i: usize) -> bool
+    requires { i < 64 }
+    ensures { result ≡ bit entry i }
+{
+    (entry >> i) % 2 == 1
+}
+
+// Each method asks for numbers in range. A type of a state in range would say that once, but each use would have to make
+// one first, `arena.at(s).is_legal(e)`, and to prove there what it proves now.
 impl Arena<'_> {
     // Whether the environment may make the move `e` in the state `s`.
     pub fn is_legal(self, s: usize, e: usize) -> bool
@@ -14,7 +28,7 @@ impl Arena<'_> {
         requires action { e < self.moves }
         ensures { result ≡ (arena_game self.entry).moves s e }
     {
-        (self.legal[s] >> e) % 2 == 1
+        bit_of(self.legal[s], e)
     }
 
     // Whether the answer `a` to the move `e` is allowed in the state `s`.
@@ -24,7 +38,7 @@ impl Arena<'_> {
         requires reply { a < self.answers }
         ensures { result ≡ (arena_game self.entry).allowed s e a }
     {
-        (self.allowed[s * self.moves + e] >> a) % 2 == 1
+        bit_of(self.allowed[s * self.moves + e], a)
     }
 
     // The state after the move `e` and the answer `a` in the state `s`.
@@ -44,7 +58,7 @@ impl Arena<'_> {
         requires promise { i < self.promise_count }
         ensures { result ≡ (arena_game self.entry).promise i s }
     {
-        (self.promises[s] >> i) % 2 == 1
+        bit_of(self.promises[s] as u64, i)
     }
 
     // Whether goal `j` holds in the state `s`.
@@ -53,7 +67,7 @@ impl Arena<'_> {
         requires goal { j < self.goal_count }
         ensures { result ≡ (arena_game self.entry).goal j s }
     {
-        (self.goals[s] >> j) % 2 == 1
+        bit_of(self.goals[s] as u64, j)
     }
 
     // Whether some allowed answer to the move `e` leads into the set.
@@ -63,12 +77,7 @@ impl Arena<'_> {
         requires cells { room cells.now ≡ self.states }
         ensures { Decides result (Forced (arena_game self.entry) (In (member cells.now)) s e) }
     {
-        for a in 0..self.answers {
-            if self.is_allowed(s, e, a) && has(cells, self.after(s, e, a)) {
-                return true;
-            }
-        }
-        false
+        (0..self.answers).any(|a| self.is_allowed(s, e, a) && has(cells, self.after(s, e, a)))
     }
 
     // One step back: whether the controller can make sure, from the state `s`, to be in the set after the step.
@@ -77,11 +86,6 @@ impl Arena<'_> {
         requires cells { room cells.now ≡ self.states }
         ensures { Decides result (Cpre (arena_game self.entry) (In (member cells.now)) s) }
     {
-        for e in 0..self.moves {
-            if self.is_legal(s, e) && !self.forces(cells, s, e) {
-                return false;
-            }
-        }
-        true
+        (0..self.moves).all(|e| !self.is_legal(s, e) || self.forces(cells, s, e))
     }
 }

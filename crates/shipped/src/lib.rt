@@ -4,8 +4,6 @@
 ghost use Rattle.shipped.specs.Table.{ShippedGames};
 
 // Each shipped game's file is read, and from each of its states some controller wins, or none does, as the table says.
-pub fn shipped_games() -> u8
+pub fn shipped_games()
     ensures { ShippedGames }
-{
-    0
-}
+{}

@@ -1,47 +1,41 @@
 // What the words of a command line ask for.
 
 // The rules file, and where to write the table and the way, if anywhere.
-#[derive(Clone, Copy)]
+#[derive(Clone, Copy, PartialEq, Eq, Debug)]
 pub struct Task<'a> {
     pub rules: &'a str,
     pub table: Option<&'a str>,
     pub way: Option<&'a str>,
 }
 
-#[derive(Clone, Copy)]
+#[derive(Clone, Copy, PartialEq, Eq, Debug)]
 pub enum Command<'a> {
     Solve(Task<'a>),
     Help,
-    Unclear,
 }
 
 impl<'a> Command<'a> {
-    // The command of the words after the program's name: RULES [--table FILE] [--way FILE], or --help.
-    pub fn of(words: &'a Vec<String>) -> Command<'a> {
-        if words.is_empty() {
-            return Command::Unclear;
-        }
-        if words[0].as_str() == "--help" {
-            return Command::Help;
+    // The command of the words after the program's name, RULES [--table FILE] [--way FILE] or --help; nothing where they are no command.
+    pub fn parse(words: &'a [String]) -> Option<Command<'a>> {
+        let (rules, options) = words.split_first()?;
+        if rules.as_str() == "--help" {
+            return Some(Command::Help);
         }
         let mut task = Task {
-            rules: words[0].as_str(),
+            rules: rules.as_str(),
             table: None,
             way: None,
         };
-        let mut at = 1;
-        while at < words.len() && words.len() - at >= 2 {
-            match words[at].as_str() {
-                "--table" => task.table = Some(words[at + 1].as_str()),
-                "--way" => task.way = Some(words[at + 1].as_str()),
-                _ => return Command::Unclear,
+        for option in options.chunks(2) {
+            let [name, file] = option else {
+                return None;
+            };
+            match name.as_str() {
+                "--table" => task.table = Some(file.as_str()),
+                "--way" => task.way = Some(file.as_str()),
+                _ => return None,
             }
-            at += 2;
         }
-        if at == words.len() {
-            Command::Solve(task)
-        } else {
-            Command::Unclear
-        }
+        Some(Command::Solve(task))
     }
 }

@@ -3,14 +3,18 @@
 
 mod command;
 mod files;
+mod memory;
 
+use cli::Program;
+use cli::failure::Failure;
 use command::{Command, Task};
 use files::{table_file, way_file};
 use game::rules::{MOST_FILE, Rules};
-use solver::memory::{Outcome, Table, Way};
+use memory::Memory;
+use solver::memory::Outcome;
 use solver::needs::Needs;
-use solver::rules::{Tables, solve_rules};
 use solver::solve::outcome;
+use std::io;
 use std::process::ExitCode;
 
 const USAGE: &str = "solve RULES [--table FILE] [--way FILE]";
@@ -28,126 +32,63 @@ A file that is no rules file prints 'refused N at P': N is the kind of fault, P 
   5  a count out of range: 0 to 8 promises, 1 to 8 goals, 1 to 16 starts
   6  a start state, from P on, has a bit too many";
 
-// How many states are marked in the set.
-fn count(set: &[u8]) -> usize {
-    let mut marked = 0usize;
-    for mark in set {
-        if *mark == 1 {
-            marked = marked.saturating_add(1);
+struct Solver;
+
+impl Program for Solver {
+    const NAME: &'static str = "solve";
+
+    fn work<'w>(rt: &HostRuntime, words: &'w [String]) -> Result<(), Failure<'w>> {
+        match Command::parse(words) {
+            Some(Command::Help) => Ok(rt.println(HELP)?),
+            Some(Command::Solve(task)) => solve(rt, task),
+            None => Err(Failure::Misused {
+                program: Self::NAME,
+                usage: USAGE,
+            }),
         }
     }
-    marked
 }
 
-// Prints who wins from one start.
-fn report_start(rt: &HostRuntime, number: usize, won: Option<Outcome>) -> anyhow::Result<()> {
-    match won {
-        Some(Outcome::Won { .. }) => println!(rt; "start {number} won")?,
-        Some(Outcome::Lost { layer }) => println!(rt; "start {number} lost layer {layer}")?,
-        None => {}
+fn main(rt: HostRuntime) -> ExitCode {
+    cli::run::<Solver>(&rt)
+}
+
+// Solves the game of the rules, prints who wins, and writes the files that are asked for.
+fn solve<'a>(rt: &HostRuntime, task: Task<'a>) -> Result<(), Failure<'a>> {
+    let heap = rt.alloc();
+    let file = cli::load(rt, task.rules, MOST_FILE)?;
+    let rules = Rules::read(&file)?;
+    let mut memory = Memory::new(Needs::from(&rules), heap)?;
+    let rounds = memory.solve(&file)?;
+    report(rt, &rules, &memory, rounds)?;
+    if let Some(path) = task.table {
+        cli::save(rt, path, &table_file(&memory, heap)?)?;
+    }
+    if let Some(path) = task.way {
+        cli::save(rt, path, &way_file(&memory, heap)?)?;
     }
     Ok(())
 }
 
 // Prints who wins: a line for the whole, and one for each start.
-fn report(
-    rt: &HostRuntime,
-    rules: &Rules<'_>,
-    known: &[u8],
-    layers: &[u16],
-    rounds: u32,
-) -> anyhow::Result<()> {
+fn report(rt: &HostRuntime, rules: &Rules<'_>, memory: &Memory, rounds: u32) -> io::Result<()> {
     let states = rules.widths.states();
-    let won = count(known);
+    let known = &memory.table.known;
+    let won = known.iter().filter(|mark| **mark == 1).count();
     println!(rt; "states {states} known {won} rounds {rounds}")?;
-    for (number, pair) in rules.starts.bytes.chunks(2).enumerate() {
-        if let [low, high] = pair {
-            let state = *low as usize + 256 * *high as usize;
-            report_start(rt, number, outcome(known, layers, rounds, state))?;
-        }
+    for start in 0..rules.starts.count {
+        let state = rules.starts.get(start) as usize;
+        let won = outcome(known, &memory.way.layers, rounds, state);
+        report_start(rt, start, won)?;
     }
     Ok(())
 }
 
-// Solves the game of the rules, prints who wins, and writes the files that are asked for. All memory is owned here and lent.
-fn solve(rt: &HostRuntime, task: Task<'_>) -> anyhow::Result<()> {
-    let heap = rt.alloc();
-    let file = cli::load(rt, "solve", task.rules, MOST_FILE)?;
-    let rules = match Rules::read(&file) {
-        Ok(rules) => rules,
-        Err(refusal) => return cli::refused(rt, refusal),
-    };
-    let needs = Needs::of(&rules);
-    let mut legal = vec![in heap; 0u64; needs.states]?;
-    let mut allowed = vec![in heap; 0u64; needs.steps()]?;
-    let mut next = vec![in heap; 0u16; needs.nexts()]?;
-    let mut promises = vec![in heap; 0u8; needs.states]?;
-    let mut goals = vec![in heap; 0u8; needs.states]?;
-    let mut sets = vec![in heap; 0u8; needs.sets()]?;
-    let mut known = vec![in heap; 0u8; needs.states]?;
-    let mut answers = vec![in heap; 0u8; needs.replies()]?;
-    let mut ranks = vec![in heap; 0u16; needs.entries()]?;
-    let mut waits = vec![in heap; 0u8; needs.entries()]?;
-    let mut layers = vec![in heap; 0u16; needs.states]?;
-    let mut avoids = vec![in heap; 0u8; needs.states]?;
-    let mut moves = vec![in heap; 0u8; needs.rows()]?;
-    let mut turns = vec![in heap; 0u16; needs.rows()]?;
-    let arena = Tables {
-        legal: &mut legal,
-        allowed: &mut allowed,
-        next: &mut next,
-        promises: &mut promises,
-        goals: &mut goals,
-    };
-    let table = Table {
-        known: &mut known,
-        answers: &mut answers,
-        ranks: &mut ranks,
-        waits: &mut waits,
-    };
-    let way = Way {
-        layers: &mut layers,
-        avoids: &mut avoids,
-        moves: &mut moves,
-        ranks: &mut turns,
-    };
-    let rounds = match solve_rules(&file, arena, &mut sets, table, way) {
-        Ok(rounds) => rounds,
-        Err(refusal) => return cli::refused(rt, refusal),
-    };
-    report(rt, &rules, &known, &layers, rounds)?;
-    if let Some(path) = task.table {
-        cli::save(
-            rt,
-            "solve",
-            path,
-            &table_file(heap, needs, &known, &answers, &ranks, &waits)?,
-        )?;
+// Prints who wins from one start.
+fn report_start(rt: &HostRuntime, start: u8, won: Option<Outcome>) -> io::Result<()> {
+    match won {
+        Some(Outcome::Won { .. }) => println!(rt; "start {start} won"),
+        Some(Outcome::Lost { layer }) => println!(rt; "start {start} lost layer {layer}"),
+        None => Ok(()),
     }
-    if let Some(path) = task.way {
-        cli::save(
-            rt,
-            "solve",
-            path,
-            &way_file(heap, needs, &known, &layers, &avoids, &moves, &turns)?,
-        )?;
-    }
-    Ok(())
-}
-
-// What the command line asks for.
-fn work(rt: &HostRuntime) -> anyhow::Result<()> {
-    let words = cli::words(rt)?;
-    match Command::of(&words) {
-        Command::Help => {
-            rt.println(HELP)?;
-            Ok(())
-        }
-        Command::Unclear => cli::misused(rt, "solve", USAGE),
-        Command::Solve(task) => solve(rt, task),
-    }
-}
-
-fn main(rt: HostRuntime) -> ExitCode {
-    cli::ending(work(&rt))
 }

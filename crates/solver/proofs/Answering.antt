@@ -1,15 +1,30 @@
 -- The answers of the table, goal by goal, and that the table holds together.
+--   first_answer    the first answer that suits is the answer
 --   answer_same     the same answer for ranks that are equal
 --   answered_more   one more goal
-use Rattle.std.proofs.Common.{◌≡◌, ℕ, ◌+◌, ◌*◌, ◌<◌, ◌≤◌, false, ◌⊎◌, List, length, sym, refl, subst}
+use Rattle.std.proofs.Common.{◌≡◌, ℕ, ◌+◌, ◌*◌, ◌<◌, ◌≤◌, Bool, true, false, ◌⊎◌, List, length, Decides, sym, refl, subst, ⊎_elim}
+use borrow.Author.Tests.{both_ways, clash}
 use borrow.Rule.Slice.PartMut.{put_mid}
 use Rattle.game.specs.Game.{Game}
 use Rattle.sets.specs.Member.{Set}
 use Rattle.sets.proofs.Arenas.{place_move}
-use Rattle.solver.specs.Choice.{Answer, Answered, Rows}
+use Rattle.solver.specs.Choice.{Answer, Answered, FirstOf, Rows}
 use Rattle.solver.specs.Reasons.{Fine, cell, row}
 use Rattle.solver.proofs.Rows.{rows_more}
 use Rattle.solver.proofs.Shrinks.{along4}
+
+pub first_answer : (g : Game) (Z : Set) (j : ℕ) (R W : ℕ → ℕ) (n s e v : ℕ) → ((a : ℕ) → g.allowed s e a ≡ true → a < n) →
+    Z s ≡ true → g.moves s e ≡ true → (suits : ℕ → Bool → Type 0) →
+    ((a : ℕ) (r : Bool) → suits a r → Decides r ((g.allowed s e a ≡ true) × Fine g Z j Z R W s (g.after s e a))) →
+    FirstOf suits n v → Answer g Z j R W s e v
+first_answer g Z j R W n s e v below z m suits says first =
+    record {
+      good = λ _ _ h.
+          ⊎_elim (λ p. (says v true p.1).0 refl)
+          (λ p. absurd (clash ((says h.0 false (p.1 h.0 (below h.0 h.1))).1 (h.1, h.2)))) first.found;
+      outside = λ o. absurd (both_ways (Z s) o z);
+      illegal = λ o. absurd (both_ways (g.moves s e) o m);
+    }
 
 module _ (g : Game) (n : ℕ) (bound : (s e a : ℕ) → g.after s e a < n) (Z : Set) (j : ℕ) (R W R' W' : ℕ → ℕ)
     (r : (s : ℕ) → s < n → R' s ≡ R s) (w : (s : ℕ) → s < n → W' s ≡ W s) where

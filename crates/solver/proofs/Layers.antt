@@ -17,9 +17,9 @@ use Rattle.sets.proofs.Steps.{cpre_mono, cpre_below}
 use Rattle.solver.specs.Fixpoint.{Kept}
 use Rattle.solver.specs.Region.{Base, Inner, Middle, Outer}
 use Rattle.solver.specs.Reasons.{Fine, Falls, Later, Free, Barred, losing, row}
-use Rattle.solver.specs.Reach.{New, Old, Attained}
+use Rattle.solver.specs.Reach.{Attained}
 use Rattle.solver.specs.Settle.{Won, Lost}
-use Rattle.solver.specs.Sweep.{Marked}
+use Rattle.solver.specs.Sweep.{Marked, New, Old}
 use Rattle.solver.proofs.Shrinks.{along3, along4}
 
 -- `Descends`, by the values of the two states: layer, goal kept away from, rank

@@ -3,11 +3,10 @@ pub mod Stays
 pub mod Shrinks
 pub mod Ranks
 pub mod Rounds
-pub mod Enters
+pub mod Adopts
 pub mod Rows
 pub mod Attains
 pub mod Layers
-pub mod Drops
 pub mod Passes
 pub mod Answering
 pub mod Moving

@@ -1,16 +1,37 @@
 -- The moves of the counterstrategy, promise by promise.
+--   most_turns   how many promises are gone for in turn
+--   first_move   the first move that suits is the move
 --   open_same    an open state stays open for ranks that are equal
 --   move_same    the same move for ranks that are equal
 --   moved_none, moved_more   before the first promise; one more promise
-use Rattle.std.proofs.Common.{◌≡◌, ℕ, ◌+◌, ◌<◌, true, false, ◌⊎◌, List, sym, refl, ◌∙◌, subst, ⊎_elim, arith}
+use Rattle.std.proofs.Common.{◌≡◌, ℕ, zero, suc, ◌+◌, ◌<◌, max, Bool, true, false, MatchBool, ◌⊎◌, List, sym, refl, ◌∙◌, subst, ⊎_elim, arith}
+use borrow.Author.Tests.{both_ways}
 use Rattle.std.proofs.lemmas.Bool.{cases_eq}
 use Rattle.game.specs.Game.{Game}
-use Rattle.game.specs.Counterstrategy.{kept}
+use Rattle.game.specs.Counterstrategy.{kept, turns}
 use Rattle.sets.specs.Member.{Set}
+use Rattle.sets.specs.Step.{Cpre, Forced}
 use Rattle.sets.proofs.Steps.{cpre_below}
-use Rattle.solver.specs.Choice.{Open, Shut, Move, Cells, Cleared, Moved}
+use Rattle.solver.specs.Choice.{FirstOf, Open, Shut, Chosen, Move, Cells, Cleared, Moved}
 use Rattle.solver.specs.Reasons.{cell, row}
 use Rattle.solver.proofs.Shrinks.{along2}
+
+-- how many promises are gone for in turn, as the code computes it
+pub most_turns : (n : ℕ) → max n 1 ≡ turns n
+most_turns zero = refl
+most_turns (suc n) = omega arith
+
+pub first_move : (g : Game) (Z : Set) (L A T : ℕ → ℕ) (i n s v : ℕ) → ((e : ℕ) → g.moves s e ≡ true → e < n) → Z s ≡ false →
+    (suits : ℕ → Bool → Type 0) →
+    ((e : ℕ) (r : Bool) → suits e r → MatchBool r (Chosen g Z L A T i s e) (g.moves s e ≡ true → Forced g (Shut g Z L A T i s) s e)) →
+    FirstOf suits n v → Move g Z L A T i s v
+unfolding Cpre
+first_move g Z L A T i n s v below z suits says first =
+    record {
+      good = λ _ no_way.
+          ⊎_elim (λ p. says v true p.1) (λ p. absurd (no_way (λ e h. says e false (p.1 e (below e h)) h))) first.found;
+      outside = λ o. absurd (both_ways (Z s) z o);
+    }
 
 pub open_same : (g : Game) (Z : Set) (L A T T' : ℕ → ℕ) (i s t : ℕ) → T' s ≡ T s → T' t ≡ T t → Open g Z L A T i s t → Open g Z L A T' i s t
 open_same g Z L A T T' i s t es et (z, d) = (

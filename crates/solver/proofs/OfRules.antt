@@ -1,14 +1,12 @@
 -- From the arena of the rules to the rules.
 --   arena_sizes    the sizes that an arena has
---   same_five, most_turns   sizes from equal numbers; how many promises are gone for
+--   same_five      sizes from equal numbers
 --   same_sizes     they are those of the rules
 --   fits_arena     slices that are long enough for the rules are so for their arena
 --   BeyondGame     what goes beyond in the slices of the tabulated game is as it was
 --   beyond_at, rest_same   the same at equal sizes; of one slice
---   lacks_table, lacks_way   what is the first kind of slices that is too short
---   rules_call     from rules that were read to the file
 --   solves_rules   what solves the arena solves the game of the rules
-use Rattle.std.proofs.Common.{◌≡◌, ℕ, zero, suc, ◌+◌, ◌*◌, ◌^◌, ◌<◌, ◌≤◌, max, Bool, true, false, cond, not, ◌&&◌, ltb, ◌⊎◌, List, [], ◌++◌, length, take, drop, Ok, Err, Decides, Result, sym, refl, ap, ◌∙◌, subst, inl, inr, arith, length-append, length-drop, lt-ltb}
+use Rattle.std.proofs.Common.{◌≡◌, ℕ, ◌+◌, ◌*◌, ◌^◌, ◌<◌, ◌≤◌, Bool, true, false, not, ◌&&◌, ltb, ◌⊎◌, List, ◌++◌, length, take, drop, sym, refl, ap, ◌∙◌, subst, inl, inr, arith, length-append, length-drop, lt-ltb}
 use Rattle.std.proofs.lemmas.List.{drop_at}
 use Rattle.std.proofs.lemmas.Bool.{and_from}
 use Rattle.game.specs.Agree.{Agree}
@@ -17,8 +15,6 @@ use Rattle.game.specs.Counterstrategy.{CounterHolds, turns}
 use Rattle.game.specs.Game.{Game}
 use Rattle.game.specs.Meaning.{game_of}
 use Rattle.game.specs.Plan.{PlanHolds}
-use Rattle.game.specs.Reading.{part, rules_in}
-use Rattle.game.specs.declared.refusal.Refusal.{Refusal}
 use Rattle.game.proofs.Agreement.{plan_agrees, counter_agrees}
 use Rattle.game.proofs.Loses.{never_both, exactly}
 use Rattle.sets.specs.Arena.{arena_game}
@@ -26,8 +22,7 @@ use Rattle.sets.specs.Member.{member}
 use Rattle.sets.specs.declared.arena.Arena.{Arena}
 use Rattle.sets.proofs.Arenas.{promises_is, goals_is}
 use Rattle.solver.specs.Call.{Fits, Solves}
-use Rattle.solver.specs.Rules.{Lent, GameFit, TableFit, WayFit, AllFits, Lacks, Beyond, Known, Winnable, Zeros, ZerosAt, SolvesRules, ReadCall, RulesCall, plan_in, way_in}
-use Rattle.solver.specs.declared.memory.Short.TheVariants.{Tables, Way}
+use Rattle.solver.specs.Rules.{Lent, AllFits, Beyond, Known, Winnable, Zeros, ZerosAt, SolvesRules, plan_in, way_in}
 use Rattle.solver.specs.Solution.{Unused}
 use Rattle.solver.specs.Sizes.{Sizes, sizes_from, sizes_of, reply_count, entry_count, row_count}
 
@@ -37,11 +32,6 @@ arena_sizes c a = sizes_from a.states a.moves (2 ^ c.answer) a.goal_count (turns
 pub same_five : (s s' m m' x x' g g' t t' : ℕ) → s ≡ s' → m ≡ m' → x ≡ x' → g ≡ g' → t ≡ t' →
     sizes_from s m x g t ≡ sizes_from s' m' x' g' t'
 same_five s s' m m' x x' g g' t t' p q o r u = rw (p, q, o, r, u)
-
--- how many promises are gone for in turn, as the code computes it
-pub most_turns : (n : ℕ) → max n 1 ≡ turns n
-most_turns zero = refl
-most_turns (suc n) = omega arith
 
 pub same_sizes : (c : Content) (a : Arena) → a.states ≡ 2 ^ c.state → a.moves ≡ 2 ^ c.moves →
     Agree (arena_game a) (game_of c) → arena_sizes c a ≡ sizes_of c
@@ -156,19 +146,3 @@ module _ (c : Content) (a : Arena) (l l' : Lent) (v : Valid c) (ag : Agree (aren
         most_rounds = subst (λ (z : Sizes). rounds ≤ z.states + 1) e most;
         beyond = all_beyond b;
       }
-
-never : (b : Bool) → b ≡ true → b ≡ false → ⊥
-never b p q = let z : ◌≡◌ {A = ℕ} 0 1 = ap (λ (x : Bool). cond x 0 1) (sym p ∙ q) in omega arith
-
-pub lacks_table : (z y : Sizes) (l : Lent) (b d : Bool) → z ≡ y → Decides b (GameFit z l) → b ≡ true →
-    Decides d (TableFit z l.answer) → d ≡ false → Lacks y l Tables
-lacks_table z y l b d e g p t q = subst (λ (x : Sizes). Lacks x l Tables) e (g.0 p, λ f. never d (t.1 f) q)
-
-pub lacks_way : (z y : Sizes) (l : Lent) (b d h : Bool) → z ≡ y → Decides b (GameFit z l) → b ≡ true →
-    Decides d (TableFit z l.answer) → d ≡ true → Decides h (WayFit z l.answer) → h ≡ false → Lacks y l Way
-lacks_way z y l b d h e g p t q w r = subst (λ (x : Sizes). Lacks x l Way) e (g.0 p, t.0 q, λ f. never h (w.1 f) r)
-
-pub rules_call : (file : List ℕ) (c : Content) (l l' : Lent) (r : Result ℕ Refusal) → rules_in file ≡ part c [] → ReadCall c l l' r →
-    RulesCall file l l' r
-rules_call file c l l' (Ok rounds) p s = (c, p, s)
-rules_call file c l l' (Err e) p s = (inr (c, p, s.0.0, s.0.1, s.0.2), s.1)

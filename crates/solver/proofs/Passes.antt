@@ -1,23 +1,16 @@
 -- One round of the outer loop, and the loop as a whole.
---   passed_none   before the first goal
 --   passed_more   one more goal
 --   solved        a round that drops nothing ends it
-use Rattle.std.proofs.Common.{◌≡◌, ℕ, ◌+◌, ◌<◌, true, List, sym, refl, ap, ◌∙◌, subst, ⊎_elim, arith}
+use Rattle.std.proofs.Common.{◌≡◌, ℕ, ◌+◌, ◌<◌, true, false, List, sym, ap, ◌∙◌, subst, ⊎_elim, arith}
 use Rattle.std.proofs.lemmas.Bool.{cases_eq}
 use Rattle.game.specs.Game.{Game}
 use Rattle.sets.specs.Member.{member, room}
 use Rattle.sets.proofs.Members.{member_below}
 use Rattle.solver.specs.Reasons.{cell, row}
 use Rattle.solver.specs.Reach.{Attained}
-use Rattle.solver.specs.Settle.{Dropped, Won, Lost, Passed, Solved}
-use Rattle.solver.proofs.Drops.{dropped_some, dropped_quiet}
+use Rattle.solver.specs.Settle.{Dropped, Won, Passed, Solved}
+use Rattle.solver.proofs.Adopts.{adopted_some, adopted_quiet}
 use Rattle.solver.proofs.Layers.{lost_drop, won_now, won_same}
-
-pub passed_none : (g : Game) (n : ℕ) (zone layers avoids ranks waits turned : List ℕ) (next : ℕ) →
-    Lost g n (member zone) (cell layers) (cell avoids) (row turned n) next →
-    Passed g n zone next 0 zone layers avoids ranks waits turned next
-passed_none g n zone layers avoids ranks waits turned next inv =
-    record { lost = inv; up = omega arith; same = λ _. refl; won = λ q k l. absurd (omega arith) }
 
 module _ (g : Game) (n : ℕ) (bound : (s e a : ℕ) → g.after s e a < n) (zone₀ : List ℕ) (next₀ j : ℕ)
     (zone layers avoids ranks waits turned : List ℕ) (next : ℕ)
@@ -46,7 +39,7 @@ module _ (g : Game) (n : ℕ) (bound : (s e a : ℕ) → g.after s e a < n) (zon
         subst (λ (l : List ℕ). Won g n (member l) j (row ranks' n j) (row waits' n j)) (inv.same no_layer)
         (won_same g n (member zone) j R W (row ranks' n j) (row waits' n j) below r_here w_here
         (won_now g n (member zone) j (member reach) R W turned turned' att
-        (dropped_quiet n zone reach layers avoids next j zone' layers' avoids' next' fits d none)))
+        (λ s z. adopted_quiet false n reach zone layers avoids next j zone' layers' avoids' next' d none s (below s z) z)))
 
     won_more : (k : ℕ) → k < j + 1 → Won g n (member zone₀) k (row ranks' n k) (row waits' n k)
     won_more k l =
@@ -62,7 +55,7 @@ module _ (g : Game) (n : ℕ) (bound : (s e a : ℕ) → g.after s e a < n) (zon
         lost =
             lost_drop g n bound (member zone) below (cell layers) (cell avoids) turned turned' next inv.lost j a_goal (member reach) R W att
             (member zone') (cell layers') (cell avoids') d.marked next' d.up d.left
-            (dropped_some n zone reach layers avoids next j zone' layers' avoids' next' fits d);
+            (λ s new. adopted_some false n reach zone layers avoids next j zone' layers' avoids' next' d s (below s new.0) new);
         up = omega (arith, inv.up, d.up);
         same = λ q. d.same (none q) ∙ inv.same (no_layer q);
         won = won_more;

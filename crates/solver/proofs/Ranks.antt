@@ -14,8 +14,8 @@ use Rattle.sets.proofs.Steps.{cpre_mono}
 use Rattle.solver.specs.Fixpoint.{Kept, Least}
 use Rattle.solver.specs.Region.{Base, Inner, Middle}
 use Rattle.solver.specs.Reasons.{Fine, Falls}
-use Rattle.solver.specs.Reach.{New, Old, Ranked, Settled}
-use Rattle.solver.specs.Sweep.{Marked}
+use Rattle.solver.specs.Reach.{Ranked, Settled}
+use Rattle.solver.specs.Sweep.{Marked, New, Old}
 use Rattle.solver.proofs.Stays.{inner_mono}
 
 pub base_mono : (g : Game) (Z : Set) (j : ℕ) (Y V : Set) (s : ℕ) → Within Y V → Base g Z j Y s → Base g Z j V s

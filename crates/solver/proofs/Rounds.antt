@@ -12,32 +12,24 @@ use Rattle.solver.specs.Fixpoint.{Kept}
 use Rattle.solver.specs.Region.{Base, Waiting, Inner}
 use Rattle.solver.specs.Reasons.{Later, cell, row}
 use Rattle.solver.specs.Stay.{Stayed}
-use Rattle.solver.specs.Reach.{New, Entered, Ranked, Settled, Rounded, IsBase}
+use Rattle.solver.specs.Reach.{Entered, Ranked, Settled, Rounded, IsBase}
+use Rattle.solver.specs.Sweep.{New}
+use Rattle.solver.proofs.Adopts.{adopted_some, adopted_quiet}
 use Rattle.solver.proofs.Stays.{inner_mono, waiting_mono}
 use Rattle.solver.proofs.Ranks.{grounded, ranked_enter, grows}
 
 pub entered_some : (n : ℕ) (found reach ranks waits : List ℕ) (rank wait : ℕ) (reach' ranks' waits' : List ℕ) (next : ℕ) →
     room found ≡ n → Entered n found reach ranks waits rank wait n reach' ranks' waits' next →
     (s : ℕ) → New (member found) (member reach) s → rank < next
-entered_some n found reach ranks waits rank wait reach' ranks' waits' next fits e s new = go (cases_eq next rank)
-  where
-    go : (next ≡ rank) ⊎ (next ≡ rank → ⊥) → rank < next
-    go (inr ne) = omega (arith, e.up)
-    go (inl q) =
-        ⊎_elim
-        (λ c. absurd (both_ways (member reach s) new.1 (ap (λ (x : List ℕ). member x s) (sym (e.same q)) ∙ c.1)))
-        (λ c. absurd (both_ways (member reach s) new.1 (c.0 new.0)))
-        (e.marked.each s (omega (arith, member_below found s new.0)))
+entered_some n found reach ranks waits rank wait reach' ranks' waits' next fits e s new =
+    adopted_some true n found reach ranks waits rank wait reach' ranks' waits' next e s (omega (arith, member_below found s new.0)) new
 
 -- where no rank is given, all that was found was reached before
 entered_none : (n : ℕ) (found reach ranks waits : List ℕ) (rank wait : ℕ) (reach' ranks' waits' : List ℕ) (next : ℕ) →
     room found ≡ n → Entered n found reach ranks waits rank wait n reach' ranks' waits' next → next ≡ rank →
     Within (member found) (member reach)
-entered_none n found reach ranks waits rank wait reach' ranks' waits' next fits e q s x = go (cases_Bool (member reach s))
-  where
-    go : (member reach s ≡ true) ⊎ (member reach s ≡ false) → member reach s ≡ true
-    go (inl y) = y
-    go (inr o) = absurd (omega (arith, entered_some n found reach ranks waits rank wait reach' ranks' waits' next fits e s (x, o)))
+entered_none n found reach ranks waits rank wait reach' ranks' waits' next fits e q s x =
+    adopted_quiet true n found reach ranks waits rank wait reach' ranks' waits' next e q s (omega (arith, member_below found s x)) x
 
 pub rounded_base : (g : Game) (n : ℕ) (Z : Set) (j : ℕ) (base reach ranks waits turns : List ℕ) (next wait : ℕ) (reach' ranks' waits' : List ℕ) (next' : ℕ) →
     room base ≡ n → IsBase g Z j (member reach) (member base) → Ranked g n Z j (member reach) (cell ranks) (cell waits) next →
@@ -170,11 +162,3 @@ module _ (g : Game) (n : ℕ) (Z : Set) (j : ℕ) (base reach₀ turns₀ : List
             (λ ne. there k s ne m ∙ inv.outside k s l m z) (cases_eq k i);
         beyond = λ k s l m. there k s (λ p. omega arith) m ∙ inv.beyond k s l m;
       }
-
--- What the loop over the promises keeps: from whatever the round began with, what holds after the base holds on. (A
--- loop's invariant cannot name what the slices held when the function began, only where the loop did.)
-pub record Rounding (g : Game) (n : ℕ) (Z : Set) (j : ℕ) (base turns₀ : List ℕ) (next : ℕ) (reach₁ ranks₁ waits₁ : List ℕ) (rank₁ : ℕ)
-    (i : ℕ) (reach ranks waits turns : List ℕ) (rank : ℕ) : Type 0 where
-  pub on : (reach₀ : List ℕ) → IsBase g Z j (member reach₀) (member base) →
-      Rounded g n Z j reach₀ turns₀ next 0 reach₁ ranks₁ waits₁ turns₀ rank₁ →
-      Rounded g n Z j reach₀ turns₀ next i reach ranks waits turns rank

@@ -3,11 +3,11 @@
 --   row_here     what the row holds after it was written
 --   row_there    the other rows are as they were
 --   row_fits     the row lies within the list
---   cells_more, rows_more   one more entry, one more row is written
-use Rattle.std.proofs.Common.{◌≡◌, ℕ, suc, ◌+◌, ◌*◌, ◌<◌, ◌≤◌, false, ◌⊎◌, List, length, take, drop, set, replicate, sym, ap, ◌∙◌, subst, inl, inr, ⊎_elim, suc-mul, arith, rules}
+--   rows_more    one more row is written
+use Rattle.std.proofs.Common.{◌≡◌, ℕ, suc, ◌+◌, ◌*◌, ◌<◌, ◌≤◌, false, ◌⊎◌, List, length, take, drop, replicate, sym, ap, ◌∙◌, subst, inl, inr, ⊎_elim, suc-mul, arith, rules}
 use borrow.Rule.Slice.PartMut.{put_mid}
 use Rattle.std.proofs.lemmas.Nat.{mul-le}
-use Rattle.std.proofs.lemmas.List.{places, get_or-take, get_or-drop, get_or-replicate, get_or_past, get_or-set_same, get_or-set_other, length-take-le, length-drop, length-replicate}
+use Rattle.std.proofs.lemmas.List.{places, get_or-take, get_or-drop, get_or-replicate, get_or_past, length-take-le, length-drop, length-replicate}
 use Rattle.std.proofs.lemmas.Bool.{cases_lt, cases_eq, cases_Bool}
 use Rattle.sets.specs.Member.{member, room, Filled}
 use Rattle.sets.proofs.Members.{member_below}
@@ -51,15 +51,6 @@ pub filled_none : (before after : List ℕ) → Filled before false after → (s
 filled_none before after f s =
     ⊎_elim (λ l. f.1 s l)
     (λ l. ⊎_elim (λ t. absurd (omega (arith, member_below after s t))) (λ t. t) (cases_Bool (member after s))) (cases_lt s (room after))
-
--- one more entry is written
-pub cells_more : (P : ℕ → ℕ → Type 0) (k : ℕ) (xs : List ℕ) (v : ℕ) → k < length xs → Cells P k xs → P k v → Cells P (k + 1) (set xs k v)
-cells_more P k xs v l all here e le = go (cases_eq e k)
-  where
-    go : (e ≡ k) ⊎ (e ≡ k → ⊥) → P e (cell (set xs k v) e)
-    go (inl q) =
-        subst (λ (x : ℕ). P x (cell (set xs k v) x)) (sym q) (subst (P k) (sym (get_or-set_same xs k v 0 l)) here)
-    go (inr ne) = subst (P e) (sym (get_or-set_other xs k e v 0 ne)) (all e (omega arith))
 
 -- one more row is written
 pub rows_more : (P : ℕ → ℕ → ℕ → Type 0) (k w e : ℕ) (xs part : List ℕ) → e ≡ w → length part ≡ w → k * w + w ≤ length xs →

@@ -1,7 +1,7 @@
 -- One turn of the inner loop, state by state.
 --   shrunk_miss, -hit          a state stays; a state is taken out
 --   along3                        a fact of three values, at values that are equal to them
-use Rattle.std.proofs.Common.{◌≡◌, ℕ, ◌+◌, ◌<◌, Bool, true, false, not, List, length, set, MatchBool, sym, refl, ◌∙◌, subst, arith}
+use Rattle.std.proofs.Common.{◌≡◌, ℕ, ◌+◌, ◌<◌, false, List, length, set, sym, refl, ◌∙◌, subst, arith}
 use Rattle.game.specs.Game.{Game}
 use Rattle.sets.specs.Member.{Set, member, Put}
 use Rattle.sets.specs.Count.{count}
@@ -21,10 +21,6 @@ along4 P {a} {a'} {b} {b'} {k} {k'} {d} {d'} ea eb ek ed p =
 
 pub along2 : {A B : Type 0} (P : A → B → Type 0) {a a' : A} {b b' : B} → a ≡ a' → b ≡ b' → P a' b' → P a b
 along2 P {a} {a'} {b} {b'} ea eb p = subst (λ x. P x b) (sym ea) (subst (λ x. P a' x) (sym eb) p)
-
-pub when_not : {P Q : Type 0} (b : Bool) → (b ≡ true → Q) → (b ≡ false → P) → MatchBool (not b) P Q
-when_not true q p = q refl
-when_not false q p = p refl
 
 pub shrunk_none : (g : Game) (F : Set) (i n : ℕ) (before turns : List ℕ) (turn : ℕ) (stay : List ℕ) → before ≡ stay →
     Shrunk g F i n before turns turn 0 stay turns 0

@@ -1,15 +1,14 @@
 -- The steps of a pass over the states.
 --   Changed                      one entry of a function is changed
 --   put_changed, set_changed     by a put into a set, by a write to a slice
---   decided_more                 one more state is decided
 --   marked_none, -miss, -hit     the pass begins; goes by a state; marks a state
-use Rattle.std.proofs.Common.{◌≡◌, ℕ, ◌+◌, ◌<◌, Bool, ◌⊎◌, List, length, set, Decides, sym, refl, ap, ◌∙◌, subst, inl, inr, ⊎_elim, arith, eq-eqb, ne_eqb}
+use Rattle.std.proofs.Common.{◌≡◌, ℕ, ◌+◌, ◌<◌, Bool, ◌⊎◌, List, length, set, sym, refl, ap, ◌∙◌, subst, inl, inr, ⊎_elim, arith, eq-eqb, ne_eqb}
 use Rattle.std.proofs.lemmas.List.{get_or-set_same, get_or-set_other}
 use Rattle.std.proofs.lemmas.Bool.{cases_eq}
 use Rattle.game.specs.Game.{pick}
 use Rattle.sets.specs.Member.{Set, member, Put}
 use Rattle.solver.specs.Reasons.{cell}
-use Rattle.solver.specs.Sweep.{Decided, Marked}
+use Rattle.solver.specs.Sweep.{Marked}
 
 abbrev pub Changed : {A : Type 0} → (ℕ → A) → (ℕ → A) → ℕ → A → Type 0
 Changed f f' k v = (f' k ≡ v) × ((t : ℕ) → (t ≡ k → ⊥) → f' t ≡ f t)
@@ -25,14 +24,6 @@ set_changed xs s v l = (get_or-set_same xs s v 0 l, λ t ne. get_or-set_other xs
 
 below_or_at : (s k : ℕ) → s < k + 1 → (s ≡ k) ⊎ (s < k)
 below_or_at s k l = ⊎_elim (λ e. inl e) (λ ne. inr (omega arith)) (cases_eq s k)
-
-pub decided_more : (P : ℕ → Type 0) (k : ℕ) (X X' : Set) (b : Bool) → Decided P k X → Changed X X' k b → Decides b (P k) →
-    Decided P (k + 1) X'
-decided_more P k X X' b d ch here s l = go (below_or_at s k l)
-  where
-    go : (s ≡ k) ⊎ (s < k) → Decides (X' s) (P s)
-    go (inl e) = subst (λ (t : ℕ). Decides (X' t) (P t)) (sym e) (subst (λ (q : Bool). Decides q (P k)) (sym ch.0) here)
-    go (inr lt) = subst (λ (q : Bool). Decides q (P s)) (sym (ch.1 s (λ e. omega arith))) (d s lt)
 
 pub marked_none : (Yes No : ℕ → Type 0) (b : Bool) (X : Set) (u : ℕ) (f : ℕ → ℕ) (w : ℕ) (h : ℕ → ℕ) →
     Marked Yes No 0 b X X u f f w h h

@@ -1,9 +1,11 @@
 -- What the solver's public call says. Assumes nothing.
 --   Memory, lent           what the lent slices of table and counterstrategy hold
+--   held                   the same, by the structs that are lent
 --   replies, entries, rows how many entries of each kind it takes
---   SetsFit, TablesFit, WayFit, AllFit   slices of these lengths are long enough
+--   sizes_for              the sizes of an arena
+--   SetsFit, TableFit, WayFit, AllFit   the lent slices are long enough for sizes
 --   Misfit                 which are the first that are not
---   Fits, Refused          the same, of the lent slices
+--   Fits, Refused          the same for an arena
 --   Solves                 what the slices hold after it
 --   Call                   the call's outcome
 --   outcome_of             who wins from a state
@@ -14,11 +16,14 @@ use Rattle.sets.specs.Arena.{arena_game}
 use Rattle.sets.specs.Member.{member, room}
 use Rattle.sets.specs.declared.arena.Arena.{Arena}
 use Rattle.solver.specs.Reasons.{cell}
+use Rattle.solver.specs.Sizes.{Sizes, sizes_from, TableFits, WayFits}
 use Rattle.solver.specs.Solution.{Solution}
 use Rattle.solver.specs.declared.memory.Outcome.{Outcome}
 use Rattle.solver.specs.declared.memory.Outcome.TheVariants.{Won, Lost}
 use Rattle.solver.specs.declared.memory.Short.{Short}
 use Rattle.solver.specs.declared.memory.Short.TheVariants.{Sets, Tables, Way}
+use Rattle.solver.specs.declared.memory.Table.{Table}
+use Rattle.solver.specs.declared.memory.Way.{Way as CounterWay}
 
 -- what the eight lent slices hold: those of the table, then those of the counterstrategy
 pub record Memory : Type 0 where
@@ -44,6 +49,11 @@ lent known answers ranks waits layers avoids moves turned =
       turned = turned;
     }
 
+-- what the lent structs hold
+abbrev pub held : Table → CounterWay → Memory
+held t w =
+    lent t.known.now t.answers.now t.ranks.now t.waits.now w.layers.now w.avoids.now w.moves.now w.ranks.now
+
 -- how many answers a table has; how many ranks, and promises waited for; how many moves, and ranks, a counterstrategy has
 abbrev pub replies : Arena → ℕ
 replies a = a.goal_count * (a.states * a.moves)
@@ -54,33 +64,38 @@ entries a = a.goal_count * a.states
 abbrev pub rows : Arena → ℕ
 rows a = turns a.promise_count * a.states
 
-abbrev pub SetsFit : Arena → ℕ → Type 0
-SetsFit a sets = 5 * a.states ≤ sets
+-- the sizes of an arena
+abbrev pub sizes_for : Arena → Sizes
+sizes_for a = sizes_from a.states a.moves a.answers a.goal_count (turns a.promise_count)
 
-abbrev pub TablesFit : Arena → ℕ → ℕ → ℕ → ℕ → Type 0
-TablesFit a known answers ranks waits = (a.states ≤ known) × (replies a ≤ answers) × (entries a ≤ ranks) × (entries a ≤ waits)
+-- there is room for the five sets
+abbrev pub SetsFit : Sizes → List ℕ → Type 0
+SetsFit z sets = 5 * z.states ≤ length sets
 
-abbrev pub WayFit : Arena → ℕ → ℕ → ℕ → ℕ → Type 0
-WayFit a layers avoids moves turned = (a.states ≤ layers) × (a.states ≤ avoids) × (rows a ≤ moves) × (rows a ≤ turned)
+-- there is room for the table
+abbrev pub TableFit : Sizes → Memory → Type 0
+TableFit z l = TableFits z (length l.known) (length l.answers) (length l.ranks) (length l.waits)
 
-abbrev pub AllFit : Arena → ℕ → ℕ → ℕ → ℕ → ℕ → ℕ → ℕ → ℕ → ℕ → Type 0
-AllFit a sets known answers ranks waits layers avoids moves turned =
-    SetsFit a sets × TablesFit a known answers ranks waits × WayFit a layers avoids moves turned
+-- there is room for the counterstrategy
+abbrev pub WayFit : Sizes → Memory → Type 0
+WayFit z l = WayFits z (length l.layers) (length l.avoids) (length l.moves) (length l.turned)
+
+-- there is room for all
+abbrev pub AllFit : Sizes → List ℕ → Memory → Type 0
+AllFit z sets l = SetsFit z sets × TableFit z l × WayFit z l
 
 -- the first kind of slices that is too short
-abbrev pub Misfit : Arena → ℕ → ℕ → ℕ → ℕ → ℕ → ℕ → ℕ → ℕ → ℕ → Short → Type 0
-Misfit a sets known answers ranks waits layers avoids moves turned Sets = SetsFit a sets → ⊥
-Misfit a sets known answers ranks waits layers avoids moves turned Tables = SetsFit a sets × (TablesFit a known answers ranks waits → ⊥)
-Misfit a sets known answers ranks waits layers avoids moves turned Way =
-    SetsFit a sets × TablesFit a known answers ranks waits × (WayFit a layers avoids moves turned → ⊥)
+abbrev pub Misfit : Sizes → List ℕ → Memory → Short → Type 0
+Misfit z sets l Sets = SetsFit z sets → ⊥
+Misfit z sets l Tables = SetsFit z sets × (TableFit z l → ⊥)
+Misfit z sets l Way = SetsFit z sets × TableFit z l × (WayFit z l → ⊥)
 
+-- the lent slices are long enough for an arena; which are the first that are not
 abbrev pub Fits : Arena → List ℕ → Memory → Type 0
-Fits a sets l =
-    AllFit a (length sets) (length l.known) (length l.answers) (length l.ranks) (length l.waits) (length l.layers) (length l.avoids) (length l.moves) (length l.turned)
+Fits a sets l = AllFit (sizes_for a) sets l
 
 abbrev pub Refused : Arena → List ℕ → Memory → Short → Type 0
-Refused a sets l short =
-    Misfit a (length sets) (length l.known) (length l.answers) (length l.ranks) (length l.waits) (length l.layers) (length l.avoids) (length l.moves) (length l.turned) short
+Refused a sets l short = Misfit (sizes_for a) sets l short
 
 -- the first entries hold table and counterstrategy; what goes beyond is as it was
 pub record Solves (a : Arena) (l l' : Memory) : Type 0 where

@@ -1,4 +1,5 @@
 -- The answers and the moves that are chosen after the loops. Assumes nothing.
+--   FirstOf       the first number that fits
 --   Cells, Rows   a fact of each entry of a list, or of a list of rows
 --   Answer     what an answer has to do, if any can
 --   Answered   the answers of a table, goal by goal
@@ -7,12 +8,17 @@
 --   Chosen, Move   what a move has to do; the same, if any can
 --   Cleared    a row of turns in which only those of lost states are left
 --   Moved      the moves of a counterstrategy, promise by promise
-use Rattle.std.specs.Prelude.{◌≡◌, ℕ, ◌+◌, ◌*◌, ◌<◌, ◌≤◌, true, false, List}
+use Rattle.std.specs.Prelude.{◌≡◌, ℕ, ◌+◌, ◌*◌, ◌<◌, ◌≤◌, Bool, true, false, ◌⊎◌, List}
 use Rattle.game.specs.Game.{Game}
 use Rattle.game.specs.Counterstrategy.{Onward, Descends}
 use Rattle.sets.specs.Member.{Set}
 use Rattle.sets.specs.Step.{Forced, Cpre}
 use Rattle.solver.specs.Reasons.{Fine, losing, cell, row}
+
+-- v is the first number below n that fits; or 0, where none does
+pub record FirstOf (fits : ℕ → Bool → Type 0) (n v : ℕ) : Type 0 where
+  pub found : ((v < n) × fits v true) ⊎ ((v ≡ 0) × ((k : ℕ) → k < n → fits k false))
+  pub first : (k : ℕ) → k < v → fits k false
 
 -- P holds of each entry below k, with its place
 abbrev pub Cells : (ℕ → ℕ → Type 0) → ℕ → List ℕ → Type 0

@@ -2,11 +2,14 @@ pub mod Fixpoint
 pub mod Region
 pub mod Reasons
 pub mod Sweep
+pub mod Lent
 pub mod Stay
 pub mod Reach
 pub mod Settle
 pub mod Choice
+pub mod Chosen
 pub mod Solution
+pub mod Asked
 pub mod Call
 pub mod Sizes
 pub mod Rules

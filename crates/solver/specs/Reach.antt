@@ -2,13 +2,12 @@
 --   Hit, Onto  where the goal is reached; the base, from such a set
 --   Grounded   each state reached is in the base
 --   IsBase     a set is the base
---   New, Old   a state that was found and is new; one that is not
---   Entered    the pass that enters what was found
+--   Entered    what was found is entered
 --   Ranked     the ranks of the states reached so far make progress
 --   Settled    nothing more is found, and the turns say why
 --   Rounded    one round
 --   Attained   the whole loop
-use Rattle.std.specs.Prelude.{◌≡◌, ℕ, ◌+◌, ◌<◌, ◌≤◌, true, false, ◌⊎◌, List, Decides}
+use Rattle.std.specs.Prelude.{◌≡◌, ℕ, ◌<◌, ◌≤◌, true, false, ◌⊎◌, List, Decides}
 use Rattle.game.specs.Game.{Game}
 use Rattle.sets.specs.Count.{count}
 use Rattle.sets.specs.Member.{Set, In, Within, member}
@@ -16,7 +15,7 @@ use Rattle.sets.specs.Step.{Cpre}
 use Rattle.solver.specs.Fixpoint.{Kept, Closed, Least}
 use Rattle.solver.specs.Region.{Reached, Base, Waiting, Inner, Middle}
 use Rattle.solver.specs.Reasons.{Fine, Later, cell, row}
-use Rattle.solver.specs.Sweep.{Marked}
+use Rattle.solver.specs.Sweep.{Adopted}
 
 -- s is in Z, and goal j is reached there
 abbrev pub Hit : Game → Set → ℕ → ℕ → Type 0
@@ -34,22 +33,11 @@ Grounded g Z H Y = (s : ℕ) → Y s ≡ true → Onto g Z H Y s
 abbrev pub IsBase : Game → Set → ℕ → Set → Set → Type 0
 IsBase g Z j Y F = (s : ℕ) → Decides (F s) ((Z s ≡ true) × Base g Z j Y s)
 
--- s is in X and not in Y
-abbrev pub New : Set → Set → ℕ → Type 0
-New X Y s = (X s ≡ true) × (Y s ≡ false)
-
-abbrev pub Old : Set → Set → ℕ → Type 0
-Old X Y s = X s ≡ true → Y s ≡ true
-
 -- Of the states below k, those found that were new were entered, with this rank and the promise waited for; `next` is the
 -- rank to give next, one more where something was new.
-pub record Entered (n : ℕ) (found reach ranks waits : List ℕ) (rank wait k : ℕ) (reach' ranks' waits' : List ℕ) (next : ℕ) : Type 0 where
-  pub marked : Marked (New (member found) (member reach)) (Old (member found) (member reach)) k true (member reach) (member reach')
-      rank (cell ranks) (cell ranks') wait (cell waits) (cell waits')
-  pub same : next ≡ rank → reach' ≡ reach
-  pub up : rank ≤ next
-  pub by_one : next ≤ rank + 1
-  pub left : next + count n (member reach) ≤ rank + count n (member reach')
+abbrev pub Entered : ℕ → List ℕ → List ℕ → List ℕ → List ℕ → ℕ → ℕ → ℕ → List ℕ → List ℕ → List ℕ → ℕ → Type 0
+Entered n found reach ranks waits rank wait k reach' ranks' waits' next =
+    Adopted true n found reach ranks waits rank wait k reach' ranks' waits' next
 
 -- Y is within Z, and within every set that is closed under the middle step. Its states have ranks below `next`, of which
 -- there are no more than states, and from each of them the controller can make sure to go to a fine one; the rank and

@@ -7,7 +7,6 @@
 --   Zeros                  what table and counterstrategy do not use is 0
 --   Beyond                 what goes beyond the entries of the sizes is as it was
 --   SolvesRules            what the lent slices hold after it
---   ReadCall               the outcome for rules that were read
 --   Refuses                why a call is refused
 --   RulesCall              the call's outcome
 use Rattle.std.specs.Prelude.{◌≡◌, ℕ, ◌+◌, ◌*◌, ◌^◌, ◌<◌, ◌≤◌, true, ◌⊎◌, List, [], length, take, drop, Ok, Err, Result, ◌≢◌}
@@ -21,8 +20,8 @@ use Rattle.game.specs.Reading.{part, refused, rules_in}
 use Rattle.game.specs.declared.refusal.Refusal.{Refusal}
 use Rattle.game.specs.declared.refusal.Refusal.TheVariants.{Lent as LentShort}
 use Rattle.sets.specs.Member.{member}
-use Rattle.solver.specs.Call.{Memory}
-use Rattle.solver.specs.Sizes.{Sizes, sizes_of, reply_count, entry_count, row_count, GameFits, TableFits, WayFits}
+use Rattle.solver.specs.Call.{Memory, TableFit, WayFit}
+use Rattle.solver.specs.Sizes.{Sizes, sizes_of, reply_count, entry_count, row_count, GameFits}
 use Rattle.solver.specs.Solution.{Unused, table, way}
 use Rattle.solver.specs.declared.memory.Short.{Short}
 use Rattle.solver.specs.declared.memory.Short.TheVariants.{Sets, Tables, Way}
@@ -46,12 +45,6 @@ all_lent legal allowed next promises goals sets answer =
 abbrev pub GameFit : Sizes → Lent → Type 0
 GameFit z l =
     GameFits z (length l.legal) (length l.allowed) (length l.next) (length l.promises) (length l.goals) (length l.sets)
-
-abbrev pub TableFit : Sizes → Memory → Type 0
-TableFit z m = TableFits z (length m.known) (length m.answers) (length m.ranks) (length m.waits)
-
-abbrev pub WayFit : Sizes → Memory → Type 0
-WayFit z m = WayFits z (length m.layers) (length m.avoids) (length m.moves) (length m.turned)
 
 -- all lent slices are long enough
 abbrev pub AllFits : Sizes → Lent → Type 0
@@ -129,11 +122,6 @@ pub record SolvesRules (c : Content) (l l' : Lent) (rounds : ℕ) : Type 0 where
   pub some_round : 0 < rounds
   pub most_rounds : rounds ≤ 2 ^ c.state + 1
   pub beyond : Beyond (sizes_of c) l l'
-
--- The outcome for rules that were read: solved, or the first kind of slices that is too short, and nothing was changed.
-abbrev pub ReadCall : Content → Lent → Lent → Result ℕ Refusal → Type 0
-ReadCall c l l' (Ok rounds) = SolvesRules c l l' rounds
-ReadCall c l l' (Err e) = ((short : Short) × Lacks (sizes_of c) l short × (e ≡ refused_lent short)) × (l' ≡ l)
 
 -- The file is refused; or it holds rules, and slices are too short for them.
 abbrev pub Refuses : List ℕ → Lent → Refusal → Type 0

@@ -1,5 +1,5 @@
 -- What the outer loop and its rounds do. Assumes nothing.
---   Dropped   the pass that drops what a goal can't be reached from
+--   Dropped   what a goal can't be reached from is dropped
 --   Won       for one goal, what the last round leaves for the table
 --   Lost      what the rounds so far leave for the counterstrategy
 --   Passed    one round
@@ -13,18 +13,13 @@ use Rattle.sets.specs.Step.{Cpre}
 use Rattle.solver.specs.Fixpoint.{Kept, Closed, Greatest}
 use Rattle.solver.specs.Region.{Middle, Outer}
 use Rattle.solver.specs.Reasons.{Fine, Barred, cell, row}
-use Rattle.solver.specs.Reach.{New, Old}
-use Rattle.solver.specs.Sweep.{Marked}
+use Rattle.solver.specs.Sweep.{Adopted}
 
 -- Of the states below k, those of the zone that are not in `reach` were dropped, with this layer and the goal kept away
 -- from; `next` is the layer to give next, one more where something was dropped.
-pub record Dropped (n : ℕ) (zone reach layers avoids : List ℕ) (layer goal k : ℕ) (zone' layers' avoids' : List ℕ) (next : ℕ) : Type 0 where
-  pub marked : Marked (New (member zone) (member reach)) (Old (member zone) (member reach)) k false (member zone) (member zone')
-      layer (cell layers) (cell layers') goal (cell avoids) (cell avoids')
-  pub same : next ≡ layer → zone' ≡ zone
-  pub up : layer ≤ next
-  pub by_one : next ≤ layer + 1
-  pub left : next + count n (member zone') ≤ layer + count n (member zone)
+abbrev pub Dropped : ℕ → List ℕ → List ℕ → List ℕ → List ℕ → ℕ → ℕ → ℕ → List ℕ → List ℕ → List ℕ → ℕ → Type 0
+Dropped n zone reach layers avoids layer goal k zone' layers' avoids' next =
+    Adopted false n reach zone layers avoids layer goal k zone' layers' avoids' next
 
 -- Going for goal j, the controller can make sure from each state of Z to go to a fine one; Z is within every set that is
 -- closed under the middle step; and ranks and promises waited for of other states are 0.

@@ -1,151 +1,95 @@
 // The answers of the table, chosen after the loops: for each goal, state and legal move the first allowed answer that
 // leads to a state to which the table may go.
-ghost use Rattle.std.specs.Prelude.{◌≡◌, ◌+◌, ◌*◌, ◌<◌, ◌≤◌, length, Decides};
+ghost use Rattle.std.specs.Prelude.{◌≡◌, ℕ, ◌+◌, ◌*◌, ◌<◌, ◌≤◌, length, Decides};
 ghost use Rattle.sets.specs.Arena.{arena_game};
 ghost use Rattle.sets.specs.Member.{member, room};
-ghost use Rattle.solver.specs.Choice.{Answer, Answered, Cells, Rows};
-ghost use Rattle.solver.specs.Reasons.{Falls, Fine, cell, row};
+ghost use Rattle.solver.specs.Choice.{Answered};
+ghost use Rattle.solver.specs.Reasons.{row};
 
+use super::choose::{first_that, write_row};
 use sets::arena::Arena;
 use sets::set::has;
 
-// Whether from `s` to `t` the rank falls, or the same promise is waited for and does not hold in `s`.
-fn falls(arena: Arena<'_>, ranks: &[u16], waits: &[u8], s: usize, t: usize) -> bool
-    requires from { s < arena.states }
-    requires to { t < arena.states }
-    requires ranks { length ranks.now ≡ arena.states }
-    requires waits { length waits.now ≡ arena.states }
-    ensures { Decides result (Falls (arena_game arena.entry) (cell ranks.now) (cell waits.now) s t) }
-{
-    if ranks[t] != ranks[s] {
-        return ranks[t] < ranks[s];
-    }
-    let wait = waits[s] as usize;
-    if waits[t] as usize != wait {
-        return false;
-    }
-    if wait >= arena.promise_count {
-        return false;
-    }
-    !arena.keeps(wait, s)
+// What the answers for one goal are chosen by: the zone, and the ranks of its states and the promises waited for.
+#[derive(Clone, Copy)]
+struct ForGoal<'a> {
+    arena: Arena<'a>,
+    zone: &'a [u8],
+    goal: usize,
+    ranks: &'a [u16],
+    waits: &'a [u8],
+    ghost is_goal: { goal < arena.goal_count },
+    ghost zone_room: { room zone.now ≡ arena.states },
+    ghost ranks_length: { length ranks.now ≡ arena.states },
+    ghost waits_length: { length waits.now ≡ arena.states },
 }
 
-// Whether the table may go from `s` to `t`, going for goal `j`.
-fn is_fine(
-    arena: Arena<'_>,
-    zone: &[u8],
-    j: usize,
-    ranks: &[u16],
-    waits: &[u8],
-    s: usize,
-    t: usize,
-) -> bool
-    requires from { s < arena.states }
-    requires to { t < arena.states }
-    requires goal { j < arena.goal_count }
-    requires zone { room zone.now ≡ arena.states }
-    requires ranks { length ranks.now ≡ arena.states }
-    requires waits { length waits.now ≡ arena.states }
-    ensures { Decides result (Fine (arena_game arena.entry) (member zone.now) j (member zone.now) (cell ranks.now) (cell waits.now) s t) }
-{
-    if !has(zone, t) {
-        return false;
-    }
-    if arena.reaches(j, s) {
-        return true;
-    }
-    falls(arena, ranks, waits, s, t)
-}
+// As in the methods of `Arena`, each number is asked to be in range where it is used.
+impl ForGoal<'_> {
+    ghost use Rattle.solver.specs.Chosen.{AnswerFor, AnswersFor, FallsTo, FineTo, Suits};
 
-// The answer to the move `e` in the state `s`, going for goal `j`: the first that is allowed and leads to where the table
-// may go, or 0 where there is none.
-fn answer_for(
-    arena: Arena<'_>,
-    zone: &[u8],
-    j: usize,
-    ranks: &[u16],
-    waits: &[u8],
-    s: usize,
-    e: usize,
-) -> u8
-    requires state { s < arena.states }
-    requires action { e < arena.moves }
-    requires goal { j < arena.goal_count }
-    requires zone { room zone.now ≡ arena.states }
-    requires ranks { length ranks.now ≡ arena.states }
-    requires waits { length waits.now ≡ arena.states }
-    ensures { Answer (arena_game arena.entry) (member zone.now) j (cell ranks.now) (cell waits.now) s e result }
-{
-    if !has(zone, s) {
-        return 0;
+    // Whether from `s` to `t` the rank falls, or the same promise is waited for and does not hold in `s`.
+    #[tactic(auto, using(sets::proofs::Arenas::promises_is))]
+    fn falls(self, s: usize, t: usize) -> bool
+        requires from { s < self.arena.states }
+        requires to { t < self.arena.states }
+        ensures { Decides result (FallsTo self.entry s t) }
+    {
+        let wait = self.waits[s] as usize;
+        self.ranks[t] < self.ranks[s]
+            || self.ranks[t] == self.ranks[s]
+                && self.waits[t] as usize == wait
+                && wait < self.arena.promise_count
+                && !self.arena.keeps(wait, s)
     }
-    if !arena.is_legal(s, e) {
-        return 0;
+
+    // Whether the table may go from `s` to `t`.
+    fn is_fine(self, s: usize, t: usize) -> bool
+        requires from { s < self.arena.states }
+        requires to { t < self.arena.states }
+        ensures { Decides result (FineTo self.entry s t) }
+    {
+        has(self.zone, t) && (self.arena.reaches(self.goal, s) || self.falls(s, t))
     }
-    for a in 0..arena.answers {
-        if arena.is_allowed(s, e, a)
-            && is_fine(arena, zone, j, ranks, waits, s, arena.after(s, e, a))
-        {
-            return a as u8;
+
+    // Whether the answer `a` to the move `e` in the state `s` is allowed and leads to where the table may go.
+    fn suits(self, s: usize, e: usize, a: usize) -> bool
+        requires state { s < self.arena.states }
+        requires action { e < self.arena.moves }
+        requires reply { a < self.arena.answers }
+        ensures { Decides result (Suits self.entry s e a) }
+    {
+        self.arena.is_allowed(s, e, a) && self.is_fine(s, self.arena.after(s, e, a))
+    }
+
+    // The answer to the move `e` in the state `s`: the first that suits, or 0 where there is none.
+    fn answer(self, s: usize, e: usize) -> u8
+        requires state { s < self.arena.states }
+        requires action { e < self.arena.moves }
+        ensures { AnswerFor self.entry s e result }
+    {
+        if !has(self.zone, s) || !self.arena.is_legal(s, e) {
+            return 0;
+        }
+        first_that(self.arena.answers, |a| self.suits(s, e, a))
+    }
+
+    // Writes the answers to every move in every state.
+    fn write(self, answers: &mut [u8])
+        requires { length answers.old ≡ self.arena.states * self.arena.moves }
+        ensures { AnswersFor self.entry answers.new }
+    {
+        // by number: of rows that `chunks_exact_mut` lends, a proof knows the length alone
+        for s in 0..self.arena.states {
+            let first = s * self.arena.moves;
+            let row = &mut answers[first..first + self.arena.moves];
+            write_row(row, |e| self.answer(s, e));
         }
     }
-    0
 }
 
-// Writes the answers to every move in the state `s`, going for goal `j`.
-fn answer_state(
-    arena: Arena<'_>,
-    zone: &[u8],
-    j: usize,
-    ranks: &[u16],
-    waits: &[u8],
-    s: usize,
-    answers: &mut [u8],
-)
-    requires state { s < arena.states }
-    requires goal { j < arena.goal_count }
-    requires zone { room zone.now ≡ arena.states }
-    requires ranks { length ranks.now ≡ arena.states }
-    requires waits { length waits.now ≡ arena.states }
-    requires answers { length answers.old ≡ arena.moves }
-    ensures { Cells (Answer (arena_game arena.entry) (member zone.now) j (cell ranks.now) (cell waits.now) s) arena.entry.moves answers.new }
-{
-    for e in 0..arena.moves {
-        answers[e] = answer_for(arena, zone, j, ranks, waits, s, e);
-    }
-}
-
-// Writes the answers to every move in every state, going for goal `j`.
-fn answer_goal(
-    arena: Arena<'_>,
-    zone: &[u8],
-    j: usize,
-    ranks: &[u16],
-    waits: &[u8],
-    answers: &mut [u8],
-)
-    requires goal { j < arena.goal_count }
-    requires zone { room zone.now ≡ arena.states }
-    requires ranks { length ranks.now ≡ arena.states }
-    requires waits { length waits.now ≡ arena.states }
-    requires answers { length answers.old ≡ arena.states * arena.moves }
-    ensures { Rows (Answer (arena_game arena.entry) (member zone.now) j (cell ranks.now) (cell waits.now)) arena.entry.states arena.entry.moves answers.new }
-{
-    for s in 0..arena.states {
-        let first = s * arena.moves;
-        answer_state(
-            arena,
-            zone,
-            j,
-            ranks,
-            waits,
-            s,
-            &mut answers[first..first + arena.moves],
-        );
-    }
-}
-
-// Writes the answers of the table, goal by goal: a goal's rows are a part of each slice.
+// Writes the answers of the table, goal by goal: a goal's rows are a part of each slice. Parts by their places: of what
+// `chunks_exact_mut` lends, a proof knows the length alone.
 pub fn answer_all(arena: Arena<'_>, zone: &[u8], ranks: &[u16], waits: &[u8], answers: &mut [u8])
     requires zone { room zone.now ≡ arena.states }
     requires ranks { length ranks.now ≡ arena.goal_count * arena.states }
@@ -154,17 +98,17 @@ pub fn answer_all(arena: Arena<'_>, zone: &[u8], ranks: &[u16], waits: &[u8], an
     ensures { Answered (arena_game arena.entry) arena.entry.states arena.entry.moves (member zone.now) (row ranks.now arena.entry.states) (row waits.now arena.entry.states) answers.new arena.entry.goal_count }
 {
     let size = arena.states * arena.moves;
-    for j in 0..arena.goal_count {
-        let first = j * arena.states;
+    for goal in 0..arena.goal_count {
+        let first = goal * arena.states;
         let end = first + arena.states;
-        let place = j * size;
-        answer_goal(
+        let place = goal * size;
+        let rows = ForGoal {
             arena,
             zone,
-            j,
-            &ranks[first..end],
-            &waits[first..end],
-            &mut answers[place..place + size],
-        );
+            goal,
+            ranks: &ranks[first..end],
+            waits: &waits[first..end],
+        };
+        rows.write(&mut answers[place..place + size]);
     }
 }

@@ -3,11 +3,15 @@
 #![tactic(auto)]
 
 mod answers;
+mod choose;
 mod inner;
 pub mod memory;
 mod middle;
 mod moves;
 pub mod needs;
+mod numbered;
 mod outer;
+mod reasons;
 pub mod rules;
 pub mod solve;
+mod work;

@@ -1,188 +1,136 @@
 // The moves of the counterstrategy, chosen after the loops: for each promise gone for and each lost state the first
 // legal move after which every allowed answer leads to a lost state and descends.
-ghost use Rattle.std.specs.Prelude.{◌≡◌, ◌+◌, ◌*◌, ◌<◌, ◌≤◌, length, Decides, MatchBool};
+ghost use Rattle.std.specs.Prelude.{◌≡◌, ℕ, ◌+◌, ◌*◌, ◌<◌, ◌≤◌, length, Decides, MatchBool};
 ghost use Rattle.game.specs.Counterstrategy.{kept, turns as turn_rows};
 ghost use Rattle.sets.specs.Arena.{arena_game};
 ghost use Rattle.sets.specs.Member.{member, room};
-ghost use Rattle.sets.specs.Step.{Forced};
-ghost use Rattle.solver.specs.Choice.{Rising, Open, Shut, AllOpen, Move, Cells, Cleared, Moved};
+ghost use Rattle.solver.specs.Choice.{Cleared, Moved};
 ghost use Rattle.solver.specs.Reasons.{cell};
 
+use super::choose::{first_that, write_row};
 use sets::arena::Arena;
 use sets::set::has;
 
-// How many promises are gone for in turn: without promises there is one, which holds nowhere.
-pub fn row_count(arena: Arena<'_>) -> usize
-    ensures { result ≡ turn_rows arena.entry.promise_count }
-{
-    if arena.promise_count == 0 {
-        1
-    } else {
-        arena.promise_count
-    }
+// What the moves that go for one promise are chosen by: the zone, and the layers of lost states, the goals kept away from
+// and the turns. Without promises there is one number gone for, which is no promise's.
+#[derive(Clone, Copy)]
+struct ForPromise<'a, 't> {
+    arena: Arena<'a>,
+    zone: &'a [u8],
+    layers: &'a [u16],
+    avoids: &'a [u8],
+    promise: usize,
+    turns: &'t [u16],
+    ghost zone_room: { room zone.now ≡ arena.states },
+    ghost layers_length: { length layers.now ≡ arena.states },
+    ghost avoids_length: { length avoids.now ≡ arena.states },
+    ghost turns_length: { length turns.now ≡ arena.states },
 }
 
-// Whether promise `i` holds in `s`; a number that is no promise's holds nowhere.
-fn is_kept(arena: Arena<'_>, i: usize, s: usize) -> bool
-    requires { s < arena.states }
-    ensures { result ≡ kept (arena_game arena.entry) i s }
-{
-    i < arena.promise_count && arena.keeps(i, s)
-}
+// As in the methods of `Arena`, each number is asked to be in range where it is used.
+impl ForPromise<'_, '_> {
+    ghost use Rattle.solver.specs.Chosen.{ChosenFor, LeadsOff, LeadsOn, MoveFor, MovesFor, OpenTo, RisingTo, Unchosen};
 
-// Whether the step from `s` to `t`, going for promise `i`, goes onward: `s` keeps the promise, or its rank falls, or
-// there are no promises and the rank stays.
-fn goes_onward(arena: Arena<'_>, i: usize, turns: &[u16], s: usize, t: usize) -> bool
-    requires from { s < arena.states }
-    requires to { t < arena.states }
-    requires turns { length turns.now ≡ arena.states }
-    ensures { Decides result (Rising (arena_game arena.entry) (cell turns.now) i s t) }
-{
-    if is_kept(arena, i, s) {
-        return true;
+    // Whether the promise holds in `s`; a number that is no promise's holds nowhere.
+    #[tactic(auto, using(sets::proofs::Arenas::promises_is))]
+    fn is_kept(self, s: usize) -> bool
+        requires { s < self.arena.states }
+        ensures { result ≡ kept (arena_game self.entry.arena) self.entry.promise s }
+    {
+        self.promise < self.arena.promise_count && self.arena.keeps(self.promise, s)
     }
-    if arena.promise_count > 0 {
-        return turns[t] < turns[s];
-    }
-    turns[t] == turns[s]
-}
 
-// Whether the counterstrategy knows `t` and descends to it from `s`, going for promise `i`.
-fn is_free(
-    arena: Arena<'_>,
-    zone: &[u8],
-    layers: &[u16],
-    avoids: &[u8],
-    i: usize,
-    turns: &[u16],
-    s: usize,
-    t: usize,
-) -> bool
-    requires from { s < arena.states }
-    requires to { t < arena.states }
-    requires zone { room zone.now ≡ arena.states }
-    requires layers { length layers.now ≡ arena.states }
-    requires avoids { length avoids.now ≡ arena.states }
-    requires turns { length turns.now ≡ arena.states }
-    ensures { Decides result (Open (arena_game arena.entry) (member zone.now) (cell layers.now) (cell avoids.now) (cell turns.now) i s t) }
-{
-    if has(zone, t) {
-        return false;
+    // Whether the step from `s` to `t` goes onward: `s` keeps the promise, or its rank falls, or there are no promises and
+    // the rank stays.
+    #[tactic(auto, using(sets::proofs::Arenas::promises_is))]
+    fn goes_onward(self, s: usize, t: usize) -> bool
+        requires from { s < self.arena.states }
+        requires to { t < self.arena.states }
+        ensures { Decides result (RisingTo self.entry s t) }
+    {
+        let (here, there) = (self.turns[s], self.turns[t]);
+        self.is_kept(s)
+            || if self.arena.promise_count > 0 {
+                there < here
+            } else {
+                there == here
+            }
     }
-    if layers[t] != layers[s] {
-        return layers[t] < layers[s];
-    }
-    let avoid = avoids[s] as usize;
-    if avoids[t] as usize != avoid {
-        return false;
-    }
-    if avoid >= arena.goal_count {
-        return false;
-    }
-    if arena.reaches(avoid, s) {
-        return false;
-    }
-    goes_onward(arena, i, turns, s, t)
-}
 
-// Whether every allowed answer to the move `e` in `s` leads to where the counterstrategy goes on.
-fn all_free(
-    arena: Arena<'_>,
-    zone: &[u8],
-    layers: &[u16],
-    avoids: &[u8],
-    i: usize,
-    turns: &[u16],
-    s: usize,
-    e: usize,
-) -> bool
-    requires state { s < arena.states }
-    requires action { e < arena.moves }
-    requires zone { room zone.now ≡ arena.states }
-    requires layers { length layers.now ≡ arena.states }
-    requires avoids { length avoids.now ≡ arena.states }
-    requires turns { length turns.now ≡ arena.states }
-    ensures { MatchBool result (AllOpen (arena_game arena.entry) (member zone.now) (cell layers.now) (cell avoids.now) (cell turns.now) i s e) (Forced (arena_game arena.entry) (Shut (arena_game arena.entry) (member zone.now) (cell layers.now) (cell avoids.now) (cell turns.now) i s) s e) }
-{
-    for a in 0..arena.answers {
-        if arena.is_allowed(s, e, a)
-            && !is_free(
-                arena,
-                zone,
-                layers,
-                avoids,
-                i,
-                turns,
-                s,
-                arena.after(s, e, a),
-            )
-        {
-            return false;
+    // Whether the counterstrategy knows `t` and descends to it from `s`.
+    #[tactic(auto, using(sets::proofs::Arenas::goals_is))]
+    fn is_free(self, s: usize, t: usize) -> bool
+        requires from { s < self.arena.states }
+        requires to { t < self.arena.states }
+        ensures { Decides result (OpenTo self.entry s t) }
+    {
+        let avoid = self.avoids[s] as usize;
+        !has(self.zone, t)
+            && (self.layers[t] < self.layers[s]
+                || self.layers[t] == self.layers[s]
+                    && self.avoids[t] as usize == avoid
+                    && avoid < self.arena.goal_count
+                    && !self.arena.reaches(avoid, s)
+                    && self.goes_onward(s, t))
+    }
+
+    // Whether the answer `a` to the move `e` in `s`, if it is allowed, leads to where the counterstrategy goes on.
+    fn leads_on(self, s: usize, e: usize, a: usize) -> bool
+        requires state { s < self.arena.states }
+        requires action { e < self.arena.moves }
+        requires reply { a < self.arena.answers }
+        ensures { MatchBool result (LeadsOn self.entry s e a) (LeadsOff self.entry s e a) }
+    {
+        !self.arena.is_allowed(s, e, a) || self.is_free(s, self.arena.after(s, e, a))
+    }
+
+    // Whether every answer to the move `e` in `s` leads on, if it is allowed.
+    fn all_lead_on(self, s: usize, e: usize) -> bool
+        requires state { s < self.arena.states }
+        requires action { e < self.arena.moves }
+        ensures { MatchBool result ((a : ℕ) → a < self.entry.arena.answers → LeadsOn self.entry s e a) ((a : ℕ) × (a < self.entry.arena.answers) × LeadsOff self.entry s e a) }
+    {
+        (0..self.arena.answers).all(|a| self.leads_on(s, e, a))
+    }
+
+    // Whether the move `e` is legal in `s`, and every allowed answer to it leads on.
+    #[tactic(auto, using(sets::proofs::Arenas::answer_below))]
+    fn suits(self, s: usize, e: usize) -> bool
+        requires state { s < self.arena.states }
+        requires action { e < self.arena.moves }
+        ensures { MatchBool result (ChosenFor self.entry s e) (Unchosen self.entry s e) }
+    {
+        self.arena.is_legal(s, e) && self.all_lead_on(s, e)
+    }
+
+    // The move in `s`: the first that suits, or 0 where there is none.
+    fn choose(self, s: usize) -> u8
+        requires { s < self.arena.states }
+        ensures { MoveFor self.entry s result }
+    {
+        if has(self.zone, s) {
+            return 0;
         }
+        first_that(self.arena.moves, |e| self.suits(s, e))
     }
-    true
-}
 
-// The move in `s`, going for promise `i`: the first that is legal and after which every allowed answer leads to where
-// the counterstrategy goes on, or 0 where there is none.
-fn move_for(
-    arena: Arena<'_>,
-    zone: &[u8],
-    layers: &[u16],
-    avoids: &[u8],
-    i: usize,
-    turns: &[u16],
-    s: usize,
-) -> u8
-    requires state { s < arena.states }
-    requires zone { room zone.now ≡ arena.states }
-    requires layers { length layers.now ≡ arena.states }
-    requires avoids { length avoids.now ≡ arena.states }
-    requires turns { length turns.now ≡ arena.states }
-    ensures { Move (arena_game arena.entry) (member zone.now) (cell layers.now) (cell avoids.now) (cell turns.now) i s result }
-{
-    if has(zone, s) {
-        return 0;
-    }
-    for e in 0..arena.moves {
-        if arena.is_legal(s, e) && all_free(arena, zone, layers, avoids, i, turns, s, e) {
-            return e as u8;
-        }
-    }
-    0
-}
-
-// Writes the moves of every state, going for promise `i`.
-fn move_row(
-    arena: Arena<'_>,
-    zone: &[u8],
-    layers: &[u16],
-    avoids: &[u8],
-    i: usize,
-    turns: &[u16],
-    moves: &mut [u8],
-)
-    requires zone { room zone.now ≡ arena.states }
-    requires layers { length layers.now ≡ arena.states }
-    requires avoids { length avoids.now ≡ arena.states }
-    requires turns { length turns.now ≡ arena.states }
-    requires moves { length moves.old ≡ arena.states }
-    ensures { Cells (Move (arena_game arena.entry) (member zone.now) (cell layers.now) (cell avoids.now) (cell turns.now) i) arena.entry.states moves.new }
-{
-    for s in 0..arena.states {
-        moves[s] = move_for(arena, zone, layers, avoids, i, turns, s);
+    // Writes the moves of every state.
+    fn write(self, moves: &mut [u8])
+        requires { length moves.old ≡ self.arena.states }
+        ensures { MovesFor self.entry moves.new }
+    {
+        write_row(moves, |s| self.choose(s));
     }
 }
 
 // Clears the turns of the states of the zone, which no counterstrategy uses.
-fn clear_row(arena: Arena<'_>, zone: &[u8], turns: &mut [u16])
-    requires zone { room zone.now ≡ arena.states }
-    requires turns { length turns.old ≡ arena.states }
-    ensures { Cleared (member zone.now) (cell turns.old) (cell turns.new) arena.entry.states }
+fn clear_row(zone: &[u8], turns: &mut [u16])
+    requires { length turns.old ≡ room zone.now }
+    ensures { Cleared (member zone.now) (cell turns.old) (cell turns.new) (room zone.now) }
 {
-    for s in 0..arena.states {
+    for (s, turn) in turns.iter_mut().enumerate() {
         if has(zone, s) {
-            turns[s] = 0;
+            *turn = 0;
         }
     }
 }
@@ -203,11 +151,20 @@ pub fn move_all(
     requires moves { length moves.old ≡ turn_rows arena.promise_count * arena.states }
     ensures { Moved (arena_game arena.entry) arena.entry.states (member zone.now) (cell layers.now) (cell avoids.now) turns.old (turn_rows arena.entry.promise_count) turns.new moves.new }
 {
-    for i in 0..row_count(arena) {
-        let first = i * arena.states;
+    // by number: of rows that `chunks_exact_mut` lends, a proof knows the length alone
+    for promise in 0..arena.promise_count.max(1) {
+        let first = promise * arena.states;
         let end = first + arena.states;
-        let row = &mut turns[first..end];
-        clear_row(arena, zone, row);
-        move_row(arena, zone, layers, avoids, i, row, &mut moves[first..end]);
+        let turns = &mut turns[first..end];
+        clear_row(zone, turns);
+        let row = ForPromise {
+            arena,
+            zone,
+            layers,
+            avoids,
+            promise,
+            turns,
+        };
+        row.write(&mut moves[first..end]);
     }
 }

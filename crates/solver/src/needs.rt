@@ -1,10 +1,10 @@
 // How much memory the solver asks for.
-ghost use Rattle.std.specs.Prelude.{◌≡◌, ◌*◌, ◌≤◌, Decides};
-ghost use Rattle.game.specs.Content.{content};
-ghost use Rattle.solver.specs.Sizes.{GameFits, TableFits, WayFits, entry_count, reply_count, row_count, sizes_from, sizes_of};
+ghost use Rattle.std.specs.Prelude.{◌≡◌, ◌*◌, ◌≤◌, length, Decides, MatchResult};
 
+use super::memory::{Short, Table, Way};
 use super::solve::SETS;
 use game::rules::Rules;
+use sets::arena::Arena;
 
 // How much memory the rules of a game ask for: how many states, moves, answers and goals they have, and how many promises
 // are gone for in turn. There is one entry for each state in `legal`, `promises` and `goals` of the tabulated game, in
@@ -23,11 +23,14 @@ pub struct Needs {
     ghost most_turns: { turns ≤ 255 },
 }
 
-impl Needs {
-    // What these rules ask for.
-    pub fn of(rules: &Rules<'_>) -> Needs
-        ensures { sizes_from result.states result.moves result.answers result.goals result.turns ≡ sizes_of (content rules.now) }
-    {
+impl From<&Rules<'_>> for Needs {
+    ghost use Rattle.game.specs.Content.{content};
+    ghost use Rattle.solver.specs.Asked.{asked};
+    ghost use Rattle.solver.specs.Sizes.{sizes_of};
+
+    ghost from_gives = { λ rules needs. asked needs ≡ sizes_of (content rules.now) };
+
+    fn from(rules: &Rules<'_>) -> Needs {
         Needs {
             states: rules.widths.states() as usize,
             moves: rules.widths.moves() as usize,
@@ -36,6 +39,29 @@ impl Needs {
             turns: rules.promises.count.max(1) as usize,
         }
     }
+}
+
+impl From<Arena<'_>> for Needs {
+    ghost use Rattle.solver.specs.Asked.{asked};
+    ghost use Rattle.solver.specs.Call.{sizes_for};
+
+    ghost from_gives = { λ arena needs. asked needs ≡ sizes_for arena };
+
+    fn from(arena: Arena<'_>) -> Needs {
+        Needs {
+            states: arena.states,
+            moves: arena.moves,
+            answers: arena.answers,
+            goals: arena.goal_count,
+            turns: arena.promise_count.max(1),
+        }
+    }
+}
+
+impl Needs {
+    ghost use Rattle.solver.specs.Asked.{asked};
+    ghost use Rattle.solver.specs.Call.{AllFit, Misfit, held};
+    ghost use Rattle.solver.specs.Sizes.{GameFits, TableFits, WayFits, entry_count, reply_count, row_count};
 
     // Entries of `allowed`: one for each state and move.
     pub fn steps(self) -> usize
@@ -60,21 +86,21 @@ impl Needs {
 
     // Entries of the table's `answers`: one for each goal, state and move.
     pub fn replies(self) -> usize
-        ensures { result ≡ reply_count (sizes_from self.states self.moves self.answers self.goals self.turns) }
+        ensures { result ≡ reply_count (asked self) }
     {
         self.goals * (self.states * self.moves)
     }
 
     // Entries of the table's `ranks` and `waits`: one for each goal and state.
     pub fn entries(self) -> usize
-        ensures { result ≡ entry_count (sizes_from self.states self.moves self.answers self.goals self.turns) }
+        ensures { result ≡ entry_count (asked self) }
     {
         self.goals * self.states
     }
 
     // Entries of the counterstrategy's `moves` and `ranks`: one for each promise gone for and state.
     pub fn rows(self) -> usize
-        ensures { result ≡ row_count (sizes_from self.states self.moves self.answers self.goals self.turns) }
+        ensures { result ≡ row_count (asked self) }
     {
         self.turns * self.states
     }
@@ -89,7 +115,7 @@ impl Needs {
         goals: usize,
         sets: usize,
     ) -> bool
-        ensures { Decides result (GameFits (sizes_from self.states self.moves self.answers self.goals self.turns) legal allowed next promises goals sets) }
+        ensures { Decides result (GameFits (asked self) legal allowed next promises goals sets) }
     {
         self.states <= legal
             && self.steps() <= allowed
@@ -101,7 +127,7 @@ impl Needs {
 
     // Whether they have room for the table.
     pub fn table_fits(self, known: usize, answers: usize, ranks: usize, waits: usize) -> bool
-        ensures { Decides result (TableFits (sizes_from self.states self.moves self.answers self.goals self.turns) known answers ranks waits) }
+        ensures { Decides result (TableFits (asked self) known answers ranks waits) }
     {
         self.states <= known
             && self.replies() <= answers
@@ -111,11 +137,37 @@ impl Needs {
 
     // Whether they have room for the counterstrategy.
     pub fn way_fits(self, layers: usize, avoids: usize, moves: usize, turns: usize) -> bool
-        ensures { Decides result (WayFits (sizes_from self.states self.moves self.answers self.goals self.turns) layers avoids moves turns) }
+        ensures { Decides result (WayFits (asked self) layers avoids moves turns) }
     {
         self.states <= layers
             && self.states <= avoids
             && self.rows() <= moves
             && self.rows() <= turns
+    }
+
+    // Refuses the first kind of slices that is too short: the sets, then the table's, then the counterstrategy's.
+    pub fn check(self, sets: &[u8], table: &Table<'_>, way: &Way<'_>) -> Result<(), Short>
+        ensures { MatchResult result (λ _. AllFit (asked self) sets.now (held table.now way.now)) (λ short. Misfit (asked self) sets.now (held table.now way.now) short) }
+    {
+        if sets.len() < self.sets() {
+            return Err(Short::Sets);
+        }
+        if !self.table_fits(
+            table.known.len(),
+            table.answers.len(),
+            table.ranks.len(),
+            table.waits.len(),
+        ) {
+            return Err(Short::Tables);
+        }
+        if !self.way_fits(
+            way.layers.len(),
+            way.avoids.len(),
+            way.moves.len(),
+            way.ranks.len(),
+        ) {
+            return Err(Short::Way);
+        }
+        Ok(())
     }
 }

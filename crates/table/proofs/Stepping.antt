@@ -1,9 +1,9 @@
 -- The tests of the code, lane by lane and by what it keeps of a row, are those of the definitions.
-use Rattle.std.proofs.Common.{◌≡◌, ℕ, suc, ◌+◌, ◌*◌, ◌^◌, ◌<◌, ◌≤◌, Bool, true, false, not, ◌&&◌, ◌||◌, eqb, ltb, sym, refl, ap, ◌∙◌, arith}
-use Rattle.std.proofs.lemmas.Bool.{lt-ltb, eq-eqb, ne_eqb}
-use Rattle.std.proofs.lemmas.Bool.Decides.{nat_tests}
+use Rattle.std.proofs.Common.{◌≡◌, ℕ, ◌+◌, ◌*◌, ◌^◌, ◌<◌, Bool, true, false, not, ◌&&◌, ◌||◌, eqb, ltb, sym, refl, ap, ◌∙◌, arith}
+use Rattle.std.proofs.lemmas.Bool.{lt-ltb, and_right}
+use Rattle.std.specs.Bool.{then_some}
 use Rattle.formula.specs.Bits.{bit}
-use Rattle.game.specs.Game.{Game, next_around, goal_after}
+use Rattle.game.specs.Game.{Game, goal_after}
 use Rattle.game.specs.Plan.{Plan}
 use Rattle.game.specs.Content.{Content}
 use Rattle.game.specs.Meaning.{value_of, game_of}
@@ -13,21 +13,7 @@ use Rattle.rows.specs.Lanes.{lane_number}
 use Rattle.table.specs.declared.check.Here.{Here}
 use Rattle.table.specs.declared.check.Steps.{Steps}
 use Rattle.table.specs.Sound.{step_sound}
-use Rattle.table.specs.Steps.{StandsFor, onward, StepsOf, step_by}
-
--- a number of promises is n in the code and m in the definition
-pub fits_then : (w v n m : ℕ) → w ≡ v → m ≡ n → w < n → ltb w n ≡ (ltb v m || eqb v 8)
-fits_then w v n m e k h = grind (arith, nat_tests)
-
-pub fits_else : (w v n m : ℕ) → w ≡ v → m ≡ n → n ≤ w → eqb w 8 ≡ (ltb v m || eqb v 8)
-fits_else w v n m e k h = grind (arith, nat_tests)
-
--- the next goal around
-pub around_then : (j n m : ℕ) → m ≡ n → j + 1 ≡ n → 0 ≡ next_around m j
-around_then j n m k h = rw (eq-eqb (suc j) m (omega arith)) refl
-
-pub around_else : (j n m : ℕ) → m ≡ n → (j + 1 ≡ n → ⊥) → j + 1 ≡ next_around m j
-around_else j n m k h = let other : suc j ≡ m → ⊥ = λ e. h (omega arith) in rw (ne_eqb (suc j) m other) (omega arith)
+use Rattle.table.specs.Steps.{unkept, is_promise, StandsFor, onward, StepsOf, step_by}
 
 -- a lane of the move rule's values, within the guards of the game; likewise the answer rule's
 pub legal_lane : (c : Content) (s e : ℕ) (v : Bool) → s < 2 ^ c.state → e < 2 ^ c.moves → v ≡ value_of c.move_rule s (64 * 0 + e) 0 →
@@ -49,18 +35,27 @@ after_lane c s e r x n k h =
     h ∙ ap (λ y. (game_of c).after s y x) same ∙ ap (λ y. (game_of c).after s e y) k
 
 -- the test of a step's end in the order of the code
-regroup : (a b c d x y : Bool) → (a || (b || (c && (d && (x && y))))) ≡ implies (not a) (b || (((c && d) && x) && y))
-regroup true b c d x y = refl
-regroup false b true true x y = refl
-regroup false b true false x y = refl
-regroup false b false d x y = refl
+promise_is : (b : Bool) (w v : ℕ) → is_promise (then_some b w) v ≡ (eqb v w && b)
+promise_is true w v = by (eqb v w)
+  where
+    by : (x : Bool) → x ≡ (x && true)
+    by true = refl
+    by false = refl
+promise_is false w v = sym (and_right (eqb v w) false refl)
+
+regroup : (a b c d x y z : Bool) → z ≡ (d && (x && y)) → (a || (b || (c && z))) ≡ implies (not a) (b || (((c && d) && x) && y))
+regroup true b c d x y z e = refl
+regroup false true c d x y z e = refl
+regroup false false true d x y z e = e ∙ and_assoc d x y
+regroup false false false d x y z e = refl
 
 onward_is : (g : Game) (p : Plan) (j s t : ℕ) (h : Here) → StandsFor g p j s h →
     onward p h t ≡ (p.known (goal_after g j s) t && implies (not (g.goal j s)) (progresses g p j s t))
 onward_is g p j s t h for =
-    rw (for.later, for.goal, for.reached, for.rank, for.waits, for.waiting)
+    rw (for.later, for.goal, for.reached, for.rank, for.waits)
     (ap (λ x. p.known (goal_after g j s) t && x)
-    (regroup (g.goal j s) (ltb (p.rank j t) (p.rank j s)) (eqb (p.rank j t) (p.rank j s)) (eqb (p.waits j t) (p.waits j s)) _ _))
+    (regroup (g.goal j s) (ltb (p.rank j t) (p.rank j s)) (eqb (p.rank j t) (p.rank j s)) (eqb (p.waits j t) (p.waits j s)) _ _ _
+    (promise_is (unkept g (p.waits j s) s) (p.waits j s) (p.waits j t))))
 
 -- the test of a step
 pub step_is : (c : Content) (p : Plan) (j s e : ℕ) (h : Here) (t : Steps) → StandsFor (game_of c) p j s h → StepsOf c p j s t →

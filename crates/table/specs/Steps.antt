@@ -1,10 +1,12 @@
 -- What the checker of tables keeps of a row while it tests the row's steps. Assumes nothing.
 --   unkept     a promise does not hold in a state
+--   unkept_promise, is_promise  that promise, where it does not; whether it is one of a number
 --   StandsFor  what is kept is that of a goal and a state
 --   onward     the test of the state after a step, by what is kept
 --   LegalIn, StepsOf  words hold the legal moves of a state, and the steps from a row, move by move
 --   step_by    the test of a step, by what is kept and such words
-use Rattle.std.specs.Prelude.{◌≡◌, ℕ, ◌^◌, ◌<◌, Bool, true, not, ◌&&◌, ◌||◌, ◌==◌, nat_lt}
+use Rattle.std.specs.Prelude.{◌≡◌, ℕ, ◌^◌, ◌<◌, Bool, true, false, not, ◌&&◌, ◌||◌, ◌==◌, nat_lt, Option, Some, None}
+use Rattle.std.specs.Bool.{then_some}
 use Rattle.game.specs.Game.{Game, goal_after}
 use Rattle.game.specs.Plan.{Plan}
 use Rattle.formula.specs.Bits.{bit}
@@ -19,22 +21,30 @@ use Rattle.table.specs.declared.check.Steps.{Steps}
 abbrev pub unkept : Game → ℕ → ℕ → Bool
 unkept g i s = nat_lt i g.promises && not (g.promise i s)
 
--- goal, rank and promise waited for are those of goal j and state s; whether the goal holds there, the goal gone for
--- after it, and whether a promise is waited for that does not hold
+-- the promise i, where it is unkept
+abbrev pub unkept_promise : Game → ℕ → ℕ → Option ℕ
+unkept_promise g i s = then_some (unkept g i s) i
+
+-- goal and rank are those of goal j and state s; whether the goal holds there, the goal gone for after it, and the promise
+-- waited for, where it does not hold
 pub record StandsFor (g : Game) (p : Plan) (j s : ℕ) (h : Here) : Type 0 where
   pub goal : h.goal ≡ j
   pub reached : h.reached ≡ g.goal j s
   pub later : h.then ≡ goal_after g j s
   pub rank : h.rank ≡ p.rank j s
-  pub waits : h.waits ≡ p.waits j s
-  pub waiting : h.waiting ≡ unkept g (p.waits j s) s
+  pub waits : h.waiting_for ≡ unkept_promise g (p.waits j s) s
+
+-- there is a promise, and it is the promise i
+abbrev pub is_promise : Option ℕ → ℕ → Bool
+is_promise None i = false
+is_promise (Some k) i = i == k
 
 -- a step to t leads on
 abbrev pub onward : Plan → Here → ℕ → Bool
 onward p h t =
     p.known h.then t
     && (h.reached || (nat_lt (p.rank h.goal t) h.rank
-    || (p.rank h.goal t == h.rank && (p.waits h.goal t == h.waits && h.waiting))))
+    || (p.rank h.goal t == h.rank && is_promise h.waiting_for (p.waits h.goal t))))
 
 -- lane e of the word says whether the move e is legal in s
 abbrev pub LegalIn : Content → ℕ → ℕ → Type 0

@@ -1,23 +1,24 @@
 // The checker of tables: it evaluates the rules themselves, move by move, and believes nobody.
-ghost use Rattle.std.specs.Prelude.{◌≡◌, ◌<◌, true};
-ghost use Rattle.game.specs.Game.{next_around};
+ghost use Rattle.std.specs.Prelude.{◌≡◌, true};
 ghost use Rattle.game.specs.Content.{content};
 ghost use Rattle.game.specs.Meaning.{game_of};
 ghost use Rattle.game.specs.declared.refusal.Refusal.TheVariants.{TableFault};
 ghost use Rattle.rows.specs.Rows.{row_at};
-ghost use Rattle.table.specs.Plans.{waits_in, sheet_of, plan_of};
+ghost use Rattle.table.specs.Plans.{sheet_of, plan_of};
 ghost use Rattle.table.specs.Sound.{waits_fits, answers_fit, steps_sound, row_sound, state_sound};
-ghost use Rattle.table.specs.Steps.{unkept, StandsFor, onward, LegalIn, StepsOf, step_by};
+ghost use Rattle.table.specs.Steps.{StandsFor, onward, LegalIn, StepsOf, step_by};
 
-use crate::moves::Moves;
 use crate::{NO_PROMISE, Table};
+use formula::bits::has_bit;
+use formula::lanes::{self, Neighbours, Same};
 use game::refusal::Refusal;
 use game::rules::Rules;
 use rows::judge::Reasons;
-use rows::lanes::{afters, lane, lane_number};
+use rows::lanes::{Column, afters, lane_number};
 use rows::row::Row;
 
-// A table beside the rules that it is for.
+// A table beside the rules that it is for. Counterstrategies have a type of their own for this, since a crate gives methods
+// to its own types alone.
 #[derive(Clone, Copy)]
 pub struct Check<'a> {
     pub(crate) rules: Rules<'a>,
@@ -32,9 +33,8 @@ struct Here {
     reached: bool,
     then: u8,
     rank: u16,
-    waits: u8,
-    // whether a promise is waited for that does not hold in the state
-    waiting: bool,
+    // the promise waited for, where it is one of those that there are and does not hold in the state
+    waiting_for: Option<u8>,
 }
 
 // The steps from one row, lane e by the move e: which are legal and allowed, and where they lead, bit by bit.
@@ -50,55 +50,36 @@ impl Check<'_> {
     fn answers_fit(&self, row: Row) -> bool
         ensures { result ≡ answers_fit (content self.now.rules) row.entry.bytes.now }
     {
-        for moved in 0..self.rules.widths.moves() {
-            if row.byte(1 + moved as usize) as u32 >= self.rules.widths.answers() {
-                return false;
-            }
-        }
-        true
+        let answers = self.rules.widths.answers();
+        (0..self.rules.widths.moves()).all(|moved| (row.byte(1 + moved as usize) as u32) < answers)
     }
 
-    // Whether what a row waits for is a promise or none.
-    fn waits_fit(&self, row: Row) -> bool
-        ensures { result ≡ waits_fits (content self.now.rules) (waits_in self.now.table.moves row.entry.bytes.now) }
+    // Whether what is waited for is a promise or none.
+    #[tactic(auto, using(game::proofs::Appending::formulas_count, std::proofs::lemmas::Bool::Decides::nat_tests))]
+    fn waits_fit(&self, waits: u8) -> bool
+        ensures { result ≡ waits_fits (content self.now.rules) waits }
     {
-        let waits = row.byte(3 + self.table.moves as usize);
         waits < self.rules.promises.count || waits == NO_PROMISE
-    }
-
-    // The goal gone for after a state in which the goal holds.
-    fn next_goal(&self, goal: u8) -> u8
-        requires { goal < self.now.rules.goals.count }
-        ensures { result ≡ next_around (game_of (content self.now.rules)).goals goal }
-    {
-        let goals = self.rules.goals.count;
-        if goal + 1 == goals { 0 } else { goal + 1 }
-    }
-
-    // Whether a promise is one of those that there are, and does not hold in the state.
-    fn lacking(&self, promise: u8, state: u16) -> bool
-        ensures { result ≡ unkept (game_of (content self.now.rules)) promise state }
-    {
-        promise < self.rules.promises.count && !self.rules.promise_holds(promise, state)
     }
 
     // The row of a goal and a state.
     fn here(&self, goal: u8, state: u16) -> Here
-        requires { goal < self.now.rules.goals.count }
         ensures { StandsFor (game_of (content self.now.rules)) (plan_of (sheet_of self.now.table)) goal state result }
     {
         let reached = self.rules.goal_holds(goal, state);
-        let then = if reached { self.next_goal(goal) } else { goal };
+        let then = if reached {
+            self.rules.next_goal(goal)
+        } else {
+            goal
+        };
         let rank = self.table.rank(goal, state);
         let waits = self.table.waits(goal, state);
-        let waiting = self.lacking(waits, state);
         Here {
             goal,
             reached,
             then,
             rank,
-            waits,
-            waiting,
+            waiting_for: self.rules.promises.lacks(waits, state).then_some(waits),
         }
     }
 
@@ -113,9 +94,7 @@ impl Check<'_> {
         let rank = self.table.rank(here.goal, after);
         here.reached
             || rank < here.rank
-            || (rank == here.rank
-                && self.table.waits(here.goal, after) == here.waits
-                && here.waiting)
+            || (rank == here.rank && Some(self.table.waits(here.goal, after)) == here.waiting_for)
     }
 
     // Lane e says whether the environment may make the move e in the state.
@@ -125,9 +104,10 @@ impl Check<'_> {
         if state as u32 >= self.rules.widths.states() {
             return 0;
         }
-        self.rules.steps.moves.values(&Moves {
-            state,
-            row: Row { bytes: &[] },
+        self.rules.steps.moves.values(&lanes::Steps {
+            states: Same { number: state },
+            moves: Neighbours { block: 0 },
+            answers: Same { number: 0 },
         })
     }
 
@@ -136,12 +116,18 @@ impl Check<'_> {
         requires { answers_fit (content self.now.rules) (row_at self.now.table.rows.grid self.now.table.rows.bytes.now goal state) ≡ true }
         ensures { StepsOf (content self.now.rules) (plan_of (sheet_of self.now.table)) goal state result }
     {
-        let row = self.table.rows.row(goal, state as u32);
-        let moves = Moves { state, row };
+        let steps = lanes::Steps {
+            states: Same { number: state },
+            moves: Neighbours { block: 0 },
+            answers: Column {
+                row: self.table.rows.row(goal, state as u32),
+                from: 1,
+            },
+        };
         Steps {
             legal: self.legal(state),
-            allowed: self.rules.steps.answers.values(&moves),
-            after: afters(&self.rules, &moves),
+            allowed: self.rules.steps.answers.values(&steps),
+            after: afters(&self.rules, &steps),
         }
     }
 
@@ -149,38 +135,35 @@ impl Check<'_> {
     fn step_holds(&self, here: Here, steps: &Steps, moved: u8) -> bool
         ensures { result ≡ step_by (plan_of (sheet_of self.now.table)) here steps.now moved }
     {
-        if !lane(steps.legal, moved) {
+        if !has_bit(steps.legal, moved as usize) {
             return true;
         }
-        lane(steps.allowed, moved) && self.goes_on(here, lane_number(&steps.after, moved))
+        has_bit(steps.allowed, moved as usize)
+            && self.goes_on(here, lane_number(&steps.after, moved))
     }
 
     // Whether all steps from the row of a goal and a state hold.
     fn steps_hold(&self, goal: u8, state: u16) -> bool
-        requires goal { goal < self.now.rules.goals.count }
-        requires fit { answers_fit (content self.now.rules) (row_at self.now.table.rows.grid self.now.table.rows.bytes.now goal state) ≡ true }
+        requires { answers_fit (content self.now.rules) (row_at self.now.table.rows.grid self.now.table.rows.bytes.now goal state) ≡ true }
         ensures { result ≡ steps_sound (content self.now.rules) (plan_of (sheet_of self.now.table)) goal state }
     {
         let here = self.here(goal, state);
         let steps = self.steps(goal, state);
-        for moved in 0..self.rules.widths.moves() {
-            if !self.step_holds(here, &steps, moved as u8) {
-                return false;
-            }
-        }
-        true
+        let moves = self.rules.widths.moves() as u8;
+        (0..moves).all(|moved| self.step_holds(here, &steps, moved))
     }
 
     // Whether the row of a goal and a state is in range and, where it is known, holds together.
     fn row_holds(&self, goal: u8, state: u16) -> bool
-        requires { goal < self.now.rules.goals.count }
         ensures { result ≡ row_sound (content self.now.rules) (sheet_of self.now.table) goal state }
     {
         let row = self.table.rows.row(goal, state as u32);
         if !row.known() {
             return row.byte(0) == 0;
         }
-        self.waits_fit(row) && self.answers_fit(row) && self.steps_hold(goal, state)
+        self.waits_fit(self.table.waits(goal, state))
+            && self.answers_fit(row)
+            && self.steps_hold(goal, state)
     }
 }
 
@@ -192,12 +175,7 @@ impl Reasons for Check<'_> {
     ghost blame = { λ _ s. TableFault s };
 
     fn holds(&self, state: u16) -> bool {
-        for goal in 0..self.rules.goals.count {
-            if !self.row_holds(goal, state) {
-                return false;
-            }
-        }
-        true
+        (0..self.rules.goals.count).all(|goal| self.row_holds(goal, state))
     }
 
     fn knows(&self, state: u16) -> bool {

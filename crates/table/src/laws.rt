@@ -14,24 +14,21 @@ pub fn write_row(
 ) -> Result<(), AllocError>
     ensures { is_ok result ≡ true → out.new.items ≡ out.old.items ++ row_bytes known answers.now rank waits }
 {
-    out.push(if known { 1 } else { 0 })?;
+    out.push(u8::from(known))?;
     out.extend_from_slice(answers)?;
-    out.push((rank % 256) as u8)?;
-    out.push((rank / 256) as u8)?;
+    out.extend_from_slice(&rank.to_le_bytes())?;
     out.push(waits)?;
     Ok(())
 }
 
 // A plan that is written is read as it was.
-pub fn table_written() -> u8
+#[tactic(auto, using(crate::proofs::Inverse::table_written))]
+pub fn table_written()
     ensures { TableWritten }
-{
-    0
-}
+{}
 
 // A table that is read is written as it was.
-pub fn table_read() -> u8
+#[tactic(auto, using(crate::proofs::Inverse::table_read))]
+pub fn table_read()
     ensures { TableRead }
-{
-    0
-}
+{}

@@ -8,7 +8,6 @@ ghost use Rattle.table.specs.Sound.{table_verdict, Accepts, Wins};
 
 mod check;
 pub mod laws;
-mod moves;
 
 use check::Check;
 use game::refusal::Refusal;
@@ -28,6 +27,7 @@ pub struct Table<'a> {
 }
 
 // The grid of the rows of a table for the rules.
+#[tactic(auto, using(game::proofs::Appending::formulas_count))]
 fn grid(rules: &Rules) -> Grid
     ensures { result ≡ grid_for (content rules.now) }
 {

@@ -3,86 +3,82 @@
 
 ghost use Rattle.game.specs.Content.{Valid, content};
 
+use cli::Program;
+use cli::failure::Failure;
 use game::rules::{MOST_FILE, Rules};
-use sets::arena::Arena;
-use sets::tabulate::tabulate;
+use sets::tabulate::{Tables, tabulate};
+use std::io;
 use std::process::ExitCode;
 use std::time::Instant;
 
 const USAGE: &str = "tabulation RULES [--time]";
 
-// How many ones there are in a table of words.
-fn ones(table: &[u64]) -> u64 {
-    let mut all = 0u64;
-    for word in table {
-        all = all.saturating_add(word.count_ones() as u64);
-    }
-    all
-}
+struct Tabulation;
 
-// The states after, folded into one number so that none is left out.
-fn folded(next: &[u16]) -> u64 {
-    let mut all = 0u64;
-    for state in next {
-        all = all.wrapping_mul(31) ^ *state as u64;
-    }
-    all
-}
+impl Program for Tabulation {
+    const NAME: &'static str = "tabulation";
 
-fn show(rt: &HostRuntime, arena: &Arena<'_>) -> anyhow::Result<()> {
-    let states = arena.states;
-    let legal = ones(arena.legal);
-    let allowed = ones(arena.allowed);
-    let next = folded(arena.next);
-    println!(rt;
-        "{states} states, {legal} legal moves, {allowed} allowed answers, states after folded to {next:x}"
-    )?;
-    Ok(())
-}
-
-// Tabulates the game of the rules, and says what its arena has.
-fn run(rt: &HostRuntime, rules: &Rules<'_>, timed: bool) -> anyhow::Result<()>
-    requires { Valid (content rules.now) }
-{
-    let heap = rt.alloc();
-    let states = rules.widths.states() as usize;
-    let moves = rules.widths.moves() as usize;
-    let answers = rules.widths.answers() as usize;
-    let mut legal = vec![in heap; 0u64; states]?;
-    let mut allowed = vec![in heap; 0u64; states * moves]?;
-    let mut next = vec![in heap; 0u16; states * moves * answers]?;
-    let mut promises = vec![in heap; 0u8; states]?;
-    let mut goals = vec![in heap; 0u8; states]?;
-    let start = Instant::now(rt)?;
-    let arena = tabulate(
-        rules,
-        &mut legal,
-        &mut allowed,
-        &mut next,
-        &mut promises,
-        &mut goals,
-    );
-    let took = start.elapsed(rt)?.as_micros();
-    show(rt, &arena)?;
-    if timed {
-        println!(rt; "{took} microseconds")?;
-    }
-    Ok(())
-}
-
-// What the command line asks for.
-fn work(rt: &HostRuntime) -> anyhow::Result<()> {
-    let words = cli::words(rt)?;
-    if words.len() < 1 || words.len() > 2 {
-        return cli::misused(rt, "tabulation", USAGE);
-    }
-    let file = cli::load(rt, "tabulation", words[0].as_str(), MOST_FILE)?;
-    match Rules::read(&file) {
-        Ok(rules) => run(rt, &rules, words.len() == 2),
-        Err(refusal) => cli::refused(rt, refusal),
+    fn work<'w>(rt: &HostRuntime, words: &'w [String]) -> Result<(), Failure<'w>> {
+        let (rules, timed) = match words {
+            [rules] => (rules.as_str(), false),
+            [rules, _] => (rules.as_str(), true),
+            _ => return Err(Failure::Misused {
+                program: Self::NAME,
+                usage: USAGE,
+            }),
+        };
+        let file = cli::load(rt, rules, MOST_FILE)?;
+        let took = show(rt, &Rules::read(&file)?)?;
+        if timed {
+            println!(rt; "{took} microseconds")?;
+        }
+        Ok(())
     }
 }
 
 fn main(rt: HostRuntime) -> ExitCode {
-    cli::ending(work(&rt))
+    cli::run::<Tabulation>(&rt)
+}
+
+// Tabulates the game of the rules, says what its arena has, and returns how many microseconds it took.
+fn show(rt: &HostRuntime, rules: &Rules<'_>) -> io::Result<u128>
+    requires { Valid (content rules.now) }
+{
+    let heap = rt.alloc();
+    let states = rules.widths.states() as usize;
+    let steps = states * rules.widths.moves() as usize;
+    let nexts = steps * rules.widths.answers() as usize;
+    let mut legal = vec![in heap; 0; states]?;
+    let mut allowed = vec![in heap; 0; steps]?;
+    let mut next = vec![in heap; 0; nexts]?;
+    let mut promises = vec![in heap; 0; states]?;
+    let mut goals = vec![in heap; 0; states]?;
+    let start = Instant::now(rt)?;
+    let tables = Tables {
+        legal: &mut legal,
+        allowed: &mut allowed,
+        next: &mut next,
+        promises: &mut promises,
+        goals: &mut goals,
+    };
+    let arena = tabulate(rules, tables);
+    let took = start.elapsed(rt)?.as_micros();
+    println!(rt;
+        "{states} states, {} legal moves, {} allowed answers, states after folded to {:x}",
+        ones(arena.legal),
+        ones(arena.allowed),
+        folded(arena.next)
+    )?;
+    Ok(took)
+}
+
+// How many ones there are in a table of words.
+fn ones(table: &[u64]) -> u64 {
+    table.iter().fold(0, |all, word| all.saturating_add(word.count_ones() as u64))
+}
+
+// The states after, folded into one number so that none is left out.
+fn folded(next: &[u16]) -> u64 {
+    next.iter()
+        .fold(0, |all, state| all.wrapping_mul(31) ^ *state as u64)
 }

@@ -6,11 +6,11 @@ use Rattle.controller.proofs.Controller.accepted.Goals as goal
 
 pub returns : goal.returns
 returns c =
-    ready c.args.rules c.args.bytes.now c.args.start c.pair-state.result c.new.result c.requires
+    ready c.args.rules c.args.bytes.now c.args.start c.get-state.result c.new.result c.requires
     (c.in_ok-accept.ensures.exactly.0 refl)
     c.new.ensures.rules
     (ap sheet_of c.new.ensures.table ∙ c.in_ok-table.ensures.1)
-    c.pair-state.ensures
+    c.get-state.ensures
     c.new.ensures.place
 
 pub returns-in_err-accept : goal.returns-in_err-accept

@@ -1,61 +1,44 @@
-use Rattle.std.proofs.Common.{true, false, refl, arith}
-use Rattle.std.proofs.lemmas.Bool.Decides.{nat_tests}
-use Rattle.formula.specs.declared.symbol.Symbol.TheVariants.{Constant, Not, And, Or, Equal, State, Move, Answer, Unknown}
-use Rattle.formula.specs.Trees.{constant, state, move, answer, negation, both, either, same}
-use Rattle.formula.proofs.Masks.{ones_lanes}
-use Rattle.formula.proofs.Planted.{Begins, zero_lane, empty, leaf, one, two, not_lanes, and_lanes, or_lanes, same_lanes}
+use Rattle.std.proofs.Common.{◌≡◌, ◌<◌, ◌^◌, sym, ◌∙◌, refl, arith}
+use Rattle.formula.specs.declared.symbol.Symbol.TheVariants.{Equal}
+use Rattle.formula.specs.Trees.{negation, both, either, same}
+use Rattle.formula.proofs.Planted.{empty, leaf, one, two, not_lanes, and_lanes, or_lanes, same_lanes}
+use Rattle.formula.proofs.values.+first.Goals.{in-And-operator, in-Or, in_default-operator}
 use Rattle.formula.proofs.values.+first.Goals as goal
 
 pub returns-in_default : goal.returns-in_default
-returns-in_default g t c =
-    empty c.args.bytes.now _ _ _ (grind (arith, nat_tests))
+returns-in_default g t c = empty c.in_default.len_below c.spread.ensures
 
-pub returns-in-Constant-false : goal.returns-in-Constant-false
-returns-in-Constant-false g t c =
-    let h : Begins c.args.bytes.now (Constant false) = record { some = grind (arith, nat_tests); symbol = cc } in
-    leaf _ _ (constant false) _ _ _ _ h (λ _. refl) (λ l _. zero_lane l)
-
-pub returns-in-Constant-true : goal.returns-in-Constant-true
-returns-in-Constant-true g t c =
-    let h : Begins c.args.bytes.now (Constant true) = record { some = grind (arith, nat_tests); symbol = cc } in
-    leaf _ _ (constant true) _ _ _ _ h (λ _. refl) ones_lanes
+pub returns-in-Constant : goal.returns-in-Constant
+returns-in-Constant g t c = leaf c.in-len1-up.len_at_least c.in-Constant.ensures (λ _. refl) c.spread-in-Constant.ensures
 
 pub returns-in-State : goal.returns-in-State
-returns-in-State g t c =
-    let h : Begins c.args.bytes.now (State c.in-State.i) = record { some = grind (arith, nat_tests); symbol = cc } in
-    leaf _ _ (state c.in-State.i) _ _ _ _ h (λ _. refl) c.state_bit.ensures
+returns-in-State g t c = leaf c.in-len1-up.len_at_least c.in-State.ensures (λ _. refl) c.bit.ensures
 
 pub returns-in-Move : goal.returns-in-Move
-returns-in-Move g t c =
-    let h : Begins c.args.bytes.now (Move c.in-Move.i) = record { some = grind (arith, nat_tests); symbol = cc } in
-    leaf _ _ (move c.in-Move.i) _ _ _ _ h (λ _. refl) c.move_bit.ensures
+returns-in-Move g t c = leaf c.in-len1-up.len_at_least c.in-Move.ensures (λ _. refl) c.bit-in-Move.ensures
 
 pub returns-in-Answer : goal.returns-in-Answer
-returns-in-Answer g t c =
-    let h : Begins c.args.bytes.now (Answer c.in-Answer.i) = record { some = grind (arith, nat_tests); symbol = cc } in
-    leaf _ _ (answer c.in-Answer.i) _ _ _ _ h (λ _. refl) c.answer_bit.ensures
+returns-in-Answer g t c = leaf c.in-len1-up.len_at_least c.in-Answer.ensures (λ _. refl) c.bit-in-Answer.ensures
 
 pub returns-in-Unknown : goal.returns-in-Unknown
-returns-in-Unknown g t c =
-    let h : Begins c.args.bytes.now Unknown = record { some = grind (arith, nat_tests); symbol = cc } in
-    leaf _ _ (constant false) _ _ _ _ h (λ _. refl) (λ l k. zero_lane l)
+returns-in-Unknown g t c = leaf c.in-len1-up.len_at_least c.in-Unknown.ensures (λ _. refl) c.spread-in-Unknown.ensures
 
 pub returns-in-Not : goal.returns-in-Not
 returns-in-Not g t c =
-    let h : Begins c.args.bytes.now Not = record { some = grind (arith, nat_tests); symbol = cc } in
-    one _ _ _ negation _ _ _ _ _ h (λ _. refl) c.first-x.ensures (not_lanes _ _ _ _)
+    let k : c.first-x.result.0 < 2 ^ 64 = omega arith in
+    one negation c.in-len1-up.len_at_least c.in-Not.ensures (λ _. refl) c.first-x.ensures (not_lanes _ _ _ _ k)
 
-pub returns-in-And : goal.returns-in-And
-returns-in-And g t c =
-    let h : Begins c.args.bytes.now And = record { some = grind (arith, nat_tests); symbol = cc } in
-    two _ _ _ _ both _ _ _ _ _ _ h (λ _. refl) c.first-x-in-And.ensures c.first-y.ensures (and_lanes _ _ _ _ _)
-
-pub returns-in-Or : goal.returns-in-Or
-returns-in-Or g t c =
-    let h : Begins c.args.bytes.now Or = record { some = grind (arith, nat_tests); symbol = cc } in
-    two _ _ _ _ either _ _ _ _ _ _ h (λ _. refl) c.first-x-in-Or.ensures c.first-y-in-Or.ensures (or_lanes _ _ _ _ _)
-
-pub returns-in-Equal : goal.returns-in-Equal
-returns-in-Equal g t c =
-    let h : Begins c.args.bytes.now Equal = record { some = grind (arith, nat_tests); symbol = cc } in
-    two _ _ _ _ same _ _ _ _ _ _ h (λ _. refl) c.first-x-in-Equal.ensures c.first-y-in-Equal.ensures (same_lanes _ _ _ _ _)
+pub returns-after-operator : goal.returns-after-operator
+returns-after-operator g t c =
+    let h = c.in-len1-up.len_at_least in
+    let j : c.first-x-in-And.result.0 < 2 ^ 64 = omega arith in
+    let k : c.first-y.result.0 < 2 ^ 64 = omega arith in
+    let x = c.first-x-in-And.ensures in
+    let y = c.first-y.ensures in
+    elim c.match-operator.branch [
+      | in-And-operator w ↦ rw w.word-is (two both h w.in-And-operator.ensures (λ _. refl) x y (and_lanes _ _ _ _ _))
+      | in-Or w ↦ rw w.word-is (two either h w.in-Or.ensures (λ _. refl) x y (or_lanes _ _ _ _ _))
+      | in_default-operator w ↦
+          let e : c.from.result ≡ Equal = grind arith in
+          rw w.word-is (two same h (sym e ∙ c.from.ensures) (λ _. refl) x y (same_lanes _ _ _ _ _ j k))
+    ]

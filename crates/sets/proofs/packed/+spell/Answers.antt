@@ -5,11 +5,8 @@ use Rattle.sets.proofs.packed.+spell.Goals as goal
 
 pub double-requires : goal.double-requires
 double-requires t c =
-    record {
-      room = omega (arith, c.spell.auto.packed, c.requires.room);
-      fits = spelt_fits (c.args.n - 1) c.cut.result.1.now c.args.step.state c.args.step.moved c.args.mask (bit_and c.values.result c.args.mask) c.spell.new.packed
-          (omega arith) c.spell.ensures;
-    }
+    spelt_fits (c.args.n - 1) c.cut.result.1.now c.args.step.state c.args.step.moved c.args.mask (bit_and c.values.result c.args.mask) c.spell.new.packed
+    (omega arith) c.spell.ensures
 
 pub returns : goal.returns
 returns t c =

@@ -13,8 +13,9 @@ invariant_of-result c =
     let promises : length (content r).promises ≡ r.promises.count = formulas_length r.promises.count r.promises.bytes.now in
     let goals : length (content r).goals ≡ r.goals.count = formulas_length r.goals.count r.goals.bytes.now in
     let v = c.requires.sound in
+    let lent = c.args.tables in
     let t =
-    filled (content r) c.args.legal.now c.args.allowed.now c.args.next.now c.args.promises.now c.args.goals.now
+    filled (content r) lent.legal.now lent.allowed.now lent.next.now lent.promises.now lent.goals.now
     c.tabulate_legal.new.legal c.tabulate_allowed.new.allowed c.tabulate_next.new.next c.tabulate_states.new.table c.tabulate_states-2.new.table
     c.requires.sound c.requires.room
     c.tabulate_legal.auto.legal c.tabulate_allowed.auto.allowed c.tabulate_next.auto.next c.tabulate_states.auto.table c.tabulate_states-2.auto.table
@@ -35,24 +36,21 @@ invariant_of-result c =
       next_within = λ k. subst (λ n. get_or c.tabulate_next.new.next k 0 < n) (sym c.states.ensures) (next_within (content r) _ _ _ _ _ v z.next_size t.1 k);
     }
 
-pub returns : goal.returns
-returns c =
+pub returns-clause-agrees : goal.returns-clause-agrees
+returns-clause-agrees c =
     let r = c.args.rules.now in
+    let lent = c.args.tables in
     let t =
-    filled (content r) c.args.legal.now c.args.allowed.now c.args.next.now c.args.promises.now c.args.goals.now
+    filled (content r) lent.legal.now lent.allowed.now lent.next.now lent.promises.now lent.goals.now
     c.tabulate_legal.new.legal c.tabulate_allowed.new.allowed c.tabulate_next.new.next c.tabulate_states.new.table c.tabulate_states-2.new.table
     c.requires.sound c.requires.room
     c.tabulate_legal.auto.legal c.tabulate_allowed.auto.allowed c.tabulate_next.auto.next c.tabulate_states.auto.table c.tabulate_states-2.auto.table
     c.tabulate_legal.ensures c.tabulate_allowed.ensures c.tabulate_next.ensures c.tabulate_states.ensures c.tabulate_states-2.ensures in
-    record {
-      agrees = arena_agrees (content r) _ (record {
-        states_is = c.states.ensures;
-        moves_is = c.moves.ensures;
-        answers_is = c.answers.ensures;
-        promises_is = sym (formulas_length r.promises.count r.promises.bytes.now);
-        goals_is = sym (formulas_length r.goals.count r.goals.bytes.now);
-        tables = t.1;
-      });
-      states = c.states.ensures;
-      moves = c.moves.ensures;
-    }
+    arena_agrees (content r) _ (record {
+      states_is = c.states.ensures;
+      moves_is = c.moves.ensures;
+      answers_is = c.answers.ensures;
+      promises_is = sym (formulas_length r.promises.count r.promises.bytes.now);
+      goals_is = sym (formulas_length r.goals.count r.goals.bytes.now);
+      tables = t.1;
+    })

@@ -1,11 +1,8 @@
-use Rattle.std.proofs.Common.{arith}
-use Rattle.formula.specs.Values.{Spread}
-use Rattle.game.specs.Content.{content}
-use Rattle.game.specs.Meaning.{game_of}
-use Rattle.sets.proofs.Tables.{entry_more}
+use Rattle.std.proofs.Common.{◌<◌, arith, rules}
 use Rattle.sets.proofs.tabulate.tabulate_legal.Goals as goal
 
-pub loop-s-preserved : goal.loop-s-preserved
-loop-s-preserved c =
-    entry_more (λ k x. Spread x ((game_of (content c.args.rules.now)).moves k)) c.loop-s.legal c.loop-s.s c.legal_moves.result
-    (omega arith) c.loop-s.invariant c.legal_moves.ensures
+pub returns : goal.returns
+returns c s h =
+    let written = c.fill_by.ensures s h 0 in
+    let few : s < 65536 = omega (arith, c.fill_by.auto.table) in
+    search rules

@@ -4,6 +4,6 @@ use Rattle.solver.specs.Choice.{Moved}
 use Rattle.solver.specs.Reasons.{cell}
 use Rattle.solver.proofs.moves.move_all.Given as goal
 
-abbrev pub invariant-loop-i : goal.invariant-loop-i
-invariant-loop-i l =
-    Moved (arena_game l.arena) l.arena.states (member l.zone) (cell l.layers) (cell l.avoids) l.initial.turns l.i l.turns l.moves
+abbrev pub invariant-loop-promise : goal.invariant-loop-promise
+invariant-loop-promise l =
+    Moved (arena_game l.arena) l.arena.states (member l.zone) (cell l.layers) (cell l.avoids) l.initial.turns l.promise l.turns l.moves

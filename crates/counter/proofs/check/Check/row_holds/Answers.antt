@@ -1,23 +1,22 @@
-use Rattle.std.proofs.Common.{◌^◌, sym, ◌∙◌, arith}
+use Rattle.std.proofs.Common.{rules, ◌≡◌, ◌^◌, true, ◌&&◌, sym, ap, ◌∙◌}
 use Rattle.game.specs.Content.{content}
-use Rattle.rows.proofs.Failing.{all_more, all_fails}
-use Rattle.std.proofs.lemmas.Bool.{and_right}
-use Rattle.counter.specs.Ways.{counterstrategy_of}
+use Rattle.game.specs.Finite.{all}
+use Rattle.game.specs.Meaning.{game_of}
+use Rattle.rows.proofs.Failing.{all_over}
+use Rattle.counter.specs.Ways.{way_of}
 use Rattle.counter.specs.Sound.{answer_sound}
+use Rattle.counter.specs.Steps.{step_by}
 use Rattle.counter.proofs.Stepping.{step_is}
 use Rattle.counter.proofs.check.Check.row_holds.Goals as goal
 
-pub returns-then-not-step_holds : goal.returns-then-not-step_holds
-returns-then-not-step_holds c =
-    sym (and_right _ _
-    (all_fails (answer_sound (content c.args.self.now.rules) (counterstrategy_of c.args.self.now.way.rows.grid c.args.self.now.way.rows.bytes.now) c.args.promise c.args.state) (2 ^ (content c.args.self.now.rules).answer) c.loop-answer.answer (omega (arith, c.answers-answer-end.ensures))
-    (sym (step_is (content c.args.self.now.rules) (counterstrategy_of c.args.self.now.way.rows.grid c.args.self.now.way.rows.bytes.now) _ _ c.loop-answer.answer _ _ _ c.here-here.ensures c.moved-moved.ensures c.steps-steps.ensures
-    (sym c.may_move.ensures ∙ c.if-not-may_move.false) (omega (arith, c.answers-answer-end.ensures)))
-    ∙ sym c.if-not-step_holds.ensures)))
-
-pub loop-answer-preserved : goal.loop-answer-preserved
-loop-answer-preserved c =
-    all_more (answer_sound (content c.args.self.now.rules) (counterstrategy_of c.args.self.now.way.rows.grid c.args.self.now.way.rows.bytes.now) c.args.promise c.args.state) c.loop-answer.answer c.loop-answer.invariant
-    (sym (step_is (content c.args.self.now.rules) (counterstrategy_of c.args.self.now.way.rows.grid c.args.self.now.way.rows.bytes.now) _ _ c.loop-answer.answer _ _ _ c.here-here.ensures c.moved-moved.ensures c.steps-steps.ensures
-    (sym c.may_move.ensures ∙ c.if-not-may_move.false) (omega (arith, c.answers-answer-end.ensures)))
-    ∙ sym c.if-not-step_holds.ensures)
+pub returns : goal.returns
+returns c =
+    let rules_of = content c.args.self.now.rules in
+    let way = way_of c.args.self.now.way in
+    let sound = answer_sound rules_of way c.args.promise c.args.state in
+    let legal : (game_of rules_of).moves c.args.state c.moved-moved.result ≡ true = sym c.may_move.ensures ∙ c.if-not-may_move.false in
+    all_over (step_by way c.here-here.result c.steps-steps.result) sound c.answers-answers.result _
+    c.all.ensures.ran (λ a b f call. search rules) c.answers-answers.ensures
+    (λ a h. step_is rules_of way _ _ a _ _ _ c.here-here.ensures c.moved-moved.ensures c.steps-steps.ensures legal h)
+    ∙ ap (λ b. b && all (2 ^ rules_of.answer) sound)
+    (sym legal ∙ ap (λ e. (game_of rules_of).moves c.args.state e) c.moved-moved.ensures)

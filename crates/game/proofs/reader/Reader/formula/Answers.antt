@@ -1,20 +1,10 @@
-use Rattle.std.proofs.Common.{◌≡◌, ℕ, min, List, length, take, sym, ap, ◌∙◌}
-use Rattle.game.specs.declared.refusal.Refusal.TheVariants.{Length}
-use Rattle.game.specs.Reading.{refused}
-use Rattle.game.proofs.FormulaSteps.{formula_long, formula_fault}
+use Rattle.std.proofs.Common.{◌≡◌, min, length, take}
+use Rattle.game.proofs.FormulaSteps.{formula_fault}
 use Rattle.game.proofs.reader.Reader.formula.Goals as goal
-
-pub returns-in-Ok : goal.returns-in-Ok
-returns-in-Ok c =
-    let rest : List ℕ = c.byte.new.self.rest.now in
-    let front : c.split_at.result.0.now ≡ take (min c.in_ok-len.field-0 (length rest)) rest = cc (c.min.ensures, c.split_at.ensures.front) in
-    formula_long _ _ _ _ _ c.in_ok-len.field-0 c.in_ok-len.ensures.0 front
-    c.in-Ok.ensures.outcome.0 c.if-len-left.true
-    ∙ ap (λ n. refused (Length n)) (sym c.place-at.ensures)
 
 pub returns-in-Err : goal.returns-in-Err
 returns-in-Err c =
-    let rest : List ℕ = c.byte.new.self.rest.now in
+    let rest = c.byte.new.self.rest.now in
     let front : c.split_at.result.0.now ≡ take (min c.in_ok-len.field-0 (length rest)) rest = cc (c.min.ensures, c.split_at.ensures.front) in
     formula_fault _ _ _ _ _ _ _ c.in_ok-len.field-0 c.in-Err.fault _
     c.in_ok-len.ensures.0 c.in_ok-len.ensures.1 c.place-at.ensures front

@@ -76,7 +76,7 @@ returns-in_err-end c =
     ∙ at_promises _ _ c.in_ok-widths.widths c.state_scope.result (steps_of c.in_ok-steps.steps) c.steps.new.self.rest.now _ n₂ c.state_scope.ensures c.in_ok-promises.ensures.0
     ∙ at_goals _ _ c.in_ok-widths.widths c.state_scope-2.result (steps_of c.in_ok-steps.steps) (formulas_of c.in_ok-promises.promises.count c.in_ok-promises.promises.bytes.now) c.group.new.self.rest.now _ n₃ c.state_scope-2.ensures c.in_ok-goals.ensures.0
     ∙ at_starts _ _ c.states.result c.in_ok-widths.widths (steps_of c.in_ok-steps.steps) (formulas_of c.in_ok-promises.promises.count c.in_ok-promises.promises.bytes.now) (formulas_of c.in_ok-goals.goals.count c.in_ok-goals.goals.bytes.now) c.group-2.new.self.rest.now _ n₄ (few_states c.states.ensures (widths_few _ c.args.file.now c.in_ok-widths.widths c.widths.new.self.rest.now c.in_ok-widths.ensures.0)) c.in_ok-starts.ensures.0
-    ∙ at_more _ _ _ c.start_group.new.self.rest.now n₅ c.in_err-end.ensures.0
+    ∙ at_more _ _ _ c.group-3.new.self.rest.now n₅ c.in_err-end.ensures.0
     ∙ ap refused (sym c.in_err-end.ensures.1) in
     rw (p.1, p.2) (record { outcome = o; valid = tt; again = tt; reads_written = none_valid c.args.file.now _ o })
 
@@ -93,6 +93,6 @@ returns c =
     ∙ at_promises _ _ c.in_ok-widths.widths c.state_scope.result (steps_of c.in_ok-steps.steps) c.steps.new.self.rest.now _ n₂ c.state_scope.ensures c.in_ok-promises.ensures.0
     ∙ at_goals _ _ c.in_ok-widths.widths c.state_scope-2.result (steps_of c.in_ok-steps.steps) (formulas_of c.in_ok-promises.promises.count c.in_ok-promises.promises.bytes.now) c.group.new.self.rest.now _ n₃ c.state_scope-2.ensures c.in_ok-goals.ensures.0
     ∙ at_starts _ _ c.states.result c.in_ok-widths.widths (steps_of c.in_ok-steps.steps) (formulas_of c.in_ok-promises.promises.count c.in_ok-promises.promises.bytes.now) (formulas_of c.in_ok-goals.goals.count c.in_ok-goals.goals.bytes.now) c.group-2.new.self.rest.now _ n₄ (few_states c.states.ensures (widths_few _ c.args.file.now c.in_ok-widths.widths c.widths.new.self.rest.now c.in_ok-widths.ensures.0)) c.in_ok-starts.ensures.0
-    ∙ at_end _ c.in_ok-widths.widths c.in_ok-steps.steps (formulas_of c.in_ok-promises.promises.count c.in_ok-promises.promises.bytes.now) (formulas_of c.in_ok-goals.goals.count c.in_ok-goals.goals.bytes.now) (starts_of c.in_ok-starts.starts.count c.in_ok-starts.starts.bytes.now) c.start_group.new.self.rest.now c.in_ok-end.ensures (widths_few _ c.args.file.now c.in_ok-widths.widths c.widths.new.self.rest.now c.in_ok-widths.ensures.0) c.in_ok-steps.ensures.count in
+    ∙ at_end _ c.in_ok-widths.widths c.in_ok-steps.steps (formulas_of c.in_ok-promises.promises.count c.in_ok-promises.promises.bytes.now) (formulas_of c.in_ok-goals.goals.count c.in_ok-goals.goals.bytes.now) (starts_of c.in_ok-starts.starts.count c.in_ok-starts.starts.bytes.now) c.group-3.new.self.rest.now c.in_ok-end.ensures (widths_few _ c.args.file.now c.in_ok-widths.widths c.widths.new.self.rest.now c.in_ok-widths.ensures.0) c.in_ok-steps.ensures.count in
     let w = read_written c.args.file.now _ (slice_bytes c.args.file.now c.type_inv.file) o in
     record { outcome = o; valid = w.0; again = w.1; reads_written = λ d. only_one c.args.file.now _ d o }

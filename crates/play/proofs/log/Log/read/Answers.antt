@@ -1,33 +1,24 @@
-use Rattle.std.proofs.Common.{refl, arith}
-use Rattle.play.proofs.Spelling.{shaped, read_again, read_written, too_short, half_step, well_shaped}
+use Rattle.std.proofs.Common.{◌≡◌, ◌+◌, ◌*◌, ◌≤◌, ◌%◌, length, get_or, arith}
+use Rattle.std.proofs.lemmas.List.{take_rest}
+use Rattle.play.proofs.Spelling.{shaped, read_again, read_written, well_shaped}
 use Rattle.play.proofs.log.Log.read.Goals as goal
-use Rattle.play.proofs.log.Log.read.Goals.{then-bytes-lt2-via-then-bytes-lt2, then-bytes-lt2-via-else-bytes-lt2+then-bytes-eq1}
+use Rattle.play.proofs.log.Log.read.Goals.{in_default-via-then-bytes-lt2, in_default-via-in-len2-up+else-steps-eq0}
 
-pub returns-then-bytes-lt2 : goal.returns-then-bytes-lt2
-returns-then-bytes-lt2 c =
+pub returns-in-len2-up-clause-outcome : goal.returns-in-len2-up-clause-outcome
+returns-in-len2-up-clause-outcome c =
     let bs = c.args.bytes.now in
-    elim c.then-bytes-lt2.branch [
-      | then-bytes-lt2-via-then-bytes-lt2 w ↦
-          record {
-            outcome = (too_short bs w.if-bytes-lt2.true, refl);
-            reads_written = λ p e. let s = shaped p bs e in omega (arith, w.if-bytes-lt2.true);
-          }
-      | then-bytes-lt2-via-else-bytes-lt2+then-bytes-eq1 w ↦
-          record {
-            outcome = (half_step bs w.if-bytes-eq1.true, refl);
-            reads_written = λ p e. let s = shaped p bs e in omega (arith, w.if-bytes-eq1.true);
-          }
-    ]
+    let two : 2 ≤ length bs = omega (arith, c.in-len2-up.len_at_least) in
+    let start : c.from_le_bytes.result ≡ get_or bs 0 0 + 256 * get_or bs 1 0 = omega (arith, c.from_le_bytes.ensures) in
+    let even : length bs % 2 ≡ 1 → ⊥ = λ odd. omega (arith, odd, c.if-steps-eq0.true) in
+    (well_shaped bs two even, read_again bs _ _ start (take_rest bs 2) two even (λ i. (c.type_inv.bytes i).fits))
 
-pub returns : goal.returns
-returns c =
+pub returns-in-len2-up-clause-reads_written : goal.returns-in-len2-up-clause-reads_written
+returns-in-len2-up-clause-reads_written c = λ p e.
     let bs = c.args.bytes.now in
-    let front = c.split_at.result.0.now in
-    let back = c.split_at.result.1.now in
-    record {
-      outcome = (
-        well_shaped bs c.if-bytes-lt2.false c.if-bytes-eq1.false,
-        read_again bs front back c.split_at.ensures.front c.split_at.ensures.back c.if-bytes-lt2.false c.if-bytes-eq1.false (λ i. (c.type_inv.bytes i).fits),
-      );
-      reads_written = λ p e. read_written p bs front back e c.split_at.ensures.front c.split_at.ensures.back;
-    }
+    let start : c.from_le_bytes.result ≡ get_or bs 0 0 + 256 * get_or bs 1 0 = omega (arith, c.from_le_bytes.ensures) in
+    read_written p bs _ _ e start (take_rest bs 2)
+
+pub returns-in_default-clause-reads_written : goal.returns-in_default-clause-reads_written
+returns-in_default-clause-reads_written c = λ p e.
+    let s = shaped p c.args.bytes.now e in
+    grind (arith, s)

@@ -1,28 +1,24 @@
-use Rattle.std.proofs.Common.{sym, refl, ◌∙◌, arith, below_more}
-use borrow.Author.Tests.{clash}
-use Rattle.sets.specs.Step.{Cpre}
+use Rattle.std.proofs.Common.{◌≡◌, ℕ, true, refl, arith, rules}
+use Rattle.std.proofs.lemmas.Iterator.{cases_from_all, YieldsList-from_range}
+use Rattle.std.proofs.iter.runs.Sources.{ranges}
+use Rattle.sets.specs.Arena.{arena_game}
+use Rattle.sets.specs.Member.{member, In}
+use Rattle.sets.specs.Step.{Cpre, Forced}
 use Rattle.sets.proofs.Arenas.{move_below}
+use Rattle.sets.proofs.Steps.{all_below}
 use Rattle.sets.proofs.arena.Arena.step_back.Goals as goal
-use Rattle.sets.proofs.arena.Arena.step_back.Goals.{else-is_legal-via-then-is_legal+else-not-forces, else-is_legal-via-else-is_legal}
-
-pub returns-then-not-forces : goal.returns-then-not-forces
-unfolding Cpre
-returns-then-not-forces c = (
-  λ e. absurd (clash e),
-  λ f. c.if-not-forces.ensures.1 (f c.loop-e.e (sym c.if-is_legal.ensures)),
-)
-
-pub loop-e-preserved : goal.loop-e-preserved
-loop-e-preserved c =
-    below_more _ _ c.loop-e.invariant
-    (elim c.else-is_legal.branch [
-      | else-is_legal-via-then-is_legal+else-not-forces w ↦ λ _. w.forces.ensures.0 w.if-not-forces.false
-      | else-is_legal-via-else-is_legal w ↦ λ h. absurd (clash (sym w.if-is_legal.false ∙ (c.is_legal.ensures ∙ h)))
-    ])
 
 pub returns : goal.returns
 unfolding Cpre
-returns c = (
-  λ _ e h. c.loop-e.invariant e (omega (arith, (move_below c.args.self _ e h).1)) h,
-  λ _. refl,
-)
+returns c =
+    let g = arena_game c.args.self in
+    let n = c.args.self.moves in
+    let forced = Forced g (In (member c.args.cells.now)) c.args.s in
+    let good = λ (e : ℕ). g.moves c.args.s e ≡ true → forced e in
+    let bad = λ (e : ℕ). (g.moves c.args.s e ≡ true) × (forced e → ⊥) in
+    let cases =
+    cases_from_all _ _ c.all.result good bad c.all.ensures.ran (YieldsList-from_range 0 n n refl (omega arith))
+    (λ e f k. (search rules, λ h. search rules)) (λ e f k. (search rules, λ h. search rules)) in (
+      λ t e h. all_below good bad c.all.result n cases t e (move_below c.args.self _ e h).1 h,
+      λ f. search (rules, ranges),
+    )

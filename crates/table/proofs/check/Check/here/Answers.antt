@@ -2,7 +2,9 @@ use Rattle.std.proofs.Common.{sym, refl, ap, ◌∙◌}
 use Rattle.game.specs.Game.{goal_after}
 use Rattle.game.specs.Content.{content}
 use Rattle.game.specs.Meaning.{game_of}
-use Rattle.table.specs.Steps.{unkept}
+use Rattle.std.specs.Bool.{then_some}
+use Rattle.rows.proofs.Fitting.{held_goal}
+use Rattle.table.specs.Steps.{unkept_promise}
 use Rattle.table.proofs.check.Check.here.Goals as goal
 use Rattle.table.proofs.check.Check.here.Goals.{then-reached, else-reached}
 
@@ -14,10 +16,9 @@ returns c =
       reached = c.goal_holds-reached.ensures;
       later =
           elim c.if-reached.branch [
-            | then-reached w ↦ w.then-is ∙ w.next_goal-then.ensures ∙ sym (rw (sym c.goal_holds-reached.ensures ∙ w.if-reached.true) refl)
+            | then-reached w ↦ w.then-is ∙ w.next_goal-then.ensures.around (held_goal (content c.args.self.now.rules) c.args.goal c.args.state (sym c.goal_holds-reached.ensures ∙ w.if-reached.true)) ∙ sym (rw (sym c.goal_holds-reached.ensures ∙ w.if-reached.true) refl)
             | else-reached w ↦ w.then-is ∙ sym (rw (sym c.goal_holds-reached.ensures ∙ w.if-reached.false) refl)
           ];
       rank = c.rank-rank.ensures;
-      waits = c.waits-waits.ensures;
-      waiting = c.lacking-waiting.ensures ∙ ap (λ i. unkept (game_of (content c.args.self.now.rules)) i c.args.state) c.waits-waits.ensures;
+      waits = c.then_some.ensures ∙ ap (λ b. then_some b c.waits-waits.result) c.lacks.ensures ∙ ap (λ i. unkept_promise (game_of (content c.args.self.now.rules)) i c.args.state) c.waits-waits.ensures;
     }

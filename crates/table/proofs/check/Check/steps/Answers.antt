@@ -16,8 +16,8 @@ returns c =
       legal = c.legal.ensures;
       allowed = λ e h legal.
           allowed_lane (content c.args.self.now.rules) c.args.state e _ _ _ ((rules_within (content c.args.self.now.rules)).states _ e legal) h
-          (ltb-true _ _ (fit e h)) (ap (λ row. get_or row (1 + e) 0) c.row-row.ensures) (c.values.ensures e (omega arith));
+          (ltb-true _ _ (fit e h)) (ap (λ row. get_or row (1 + e) 0) c.row.ensures) (c.values.ensures e (omega arith));
       after = λ e h.
-          after_lane (content c.args.self.now.rules) c.args.state e _ _ _ (ap (λ row. get_or row (1 + e) 0) c.row-row.ensures)
+          after_lane (content c.args.self.now.rules) c.args.state e _ _ _ (ap (λ row. get_or row (1 + e) 0) c.row.ensures)
           (c.afters.ensures e (omega arith));
     }

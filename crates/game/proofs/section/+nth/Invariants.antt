@@ -1,4 +1,0 @@
-use Rattle.game.proofs.section.+nth.Given as goal
-
-abbrev pub decreases-nth : goal.decreases-nth
-decreases-nth l = l.i
