@@ -141,7 +141,7 @@ def found():
         lacking = [d for d in "Clone Copy PartialEq Eq Debug".split() if not re.search(r"\b%s\b" % d, derives)]
         if lacking:
             out["1a"].append(f"{place} {name} lacks {', '.join(lacking)}")
-        for variant in re.findall(r"\b(None|Unknown|Unclear|Nothing|Invalid|Error|Failed|Missing)\b", body):
+        for variant in re.findall(r"(?:^|,)\s*(None|Unknown|Unclear|Nothing|Invalid|Error|Failed|Missing)\b", body):
             out["1b"].append(f"{place} {name}::{variant}")
     for place, _, name, body in types("struct"):
         fs = fields(body)
@@ -170,7 +170,7 @@ def found():
     out["1d"] += [x for x in lines(r"const (NONE|NO_\w+)\b")]
     out["1e"] += list(lines(r"(Err|None)\b.*=> (return )?(Err|None|cli::refused)\b|Err\((\w+)\) => return|return (Err|None)\b.*\?"))
     out["1e"] += [f"{f.place()} {m.group(0).strip()[:60]}" for f in every
-                  for m in re.finditer(r"Ok\((\w+|\(\))\) => (Ok\(\1\)|\1)\b", f.body)]
+                  for m in re.finditer(r"Ok\((\w+|\(\))\) => (Ok\(\1\)|\1)(?!\w)", f.body)]
     groups = collections.defaultdict(list)
     for f in every:
         if len(WORD.findall(f.body)) >= 12:
