@@ -7,6 +7,7 @@ use game::refusal::Refusal;
 use game::rules::Rules;
 use rows::judge::Accepted;
 
+// A match, since the contract speaks of the kind.
 pub fn judge(kind: Kind, rules: &[u8], file: &[u8]) -> Result<Accepted, Refusal>
     ensures { result ≡ verdict_on kind rules.now file.now }
 {

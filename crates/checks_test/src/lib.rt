@@ -49,7 +49,7 @@ pub const STUCK_WAY: [u8; 28] = [
 // A switch without promises whose goal never holds: one state bit, which the answer sets.
 pub const OFF: [u8; 16] = [1, 0, 1, 1, 1, 1, 1, 1, 48, 0, 1, 1, 0, 1, 0, 0];
 
-// What became of a file: how many states are known, or the number and the place of a refusal.
+// What became of a file: how many states are known, or the number and the place of a refusal, as they are printed.
 pub fn outcome(verdict: Result<Accepted, Refusal>) -> Result<u32, (usize, usize)> {
     verdict
         .map(|accepted| accepted.known)

@@ -1,4 +1,3 @@
-pub mod Turning
 pub mod Walking
 pub mod Running
 pub mod Readiness

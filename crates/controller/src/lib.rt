@@ -2,7 +2,6 @@
 #![tactic(auto)]
 
 ghost use Rattle.std.specs.Prelude.{◌≡◌, [], IfOk};
-ghost use Rattle.game.specs.Game.{goal_after};
 ghost use Rattle.game.specs.Play.{now_after};
 ghost use Rattle.controller.specs.Steps.{game_in, plan_in, place_in};
 ghost use Rattle.controller.specs.Outcomes.{Same, StepsTo, RunsTo, PlaysTo, SafeTo};
@@ -45,17 +44,6 @@ impl<'a> Controller<'a> {
         }
     }
 
-    // The goal gone for after the present state.
-    fn goal_after(&self) -> u8
-        ensures { result ≡ goal_after (game_in self.now) self.now.goal self.now.state }
-    {
-        if self.rules.goal_holds(self.goal, self.state) {
-            self.rules.next_goal(self.goal)
-        } else {
-            self.goal
-        }
-    }
-
     // The table's answer to a move; where the move is refused, nothing changes, and the next one may be tried.
     pub fn step(&mut self, moved: u8) -> Result<u8, Refusal>
         ensures same { Same self.old self.new }
@@ -68,7 +56,7 @@ impl<'a> Controller<'a> {
             return Err(Refusal::UnknownState);
         }
         let answer = self.table.answer(self.goal, self.state, moved);
-        let goal = self.goal_after();
+        let goal = self.rules.goal_after(self.goal, self.state);
         self.state = self.rules.after(self.state, moved, answer);
         self.goal = goal;
         Ok(answer)

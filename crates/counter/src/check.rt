@@ -177,6 +177,7 @@ impl Reasons for Check<'_> {
         self.way.known(state)
     }
 
+    // the refusal is all that differs from a table's
     fn fault(&self, state: u16) -> Refusal {
         Refusal::WayFault {
             state: state as usize,

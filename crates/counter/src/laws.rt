@@ -4,7 +4,8 @@ ghost use Rattle.counter.specs.Written.{head_bytes, turn_bytes, WayWritten, WayR
 
 use std::alloc::AllocError;
 
-// Appends the front of a row: known, the layer, and the goal kept away from.
+// Appends the front of a row: known, the layer, and the goal kept away from. A row that is not known has all of its bytes
+// too.
 pub fn write_head(out: &mut Vec<u8>, known: bool, layer: u16, avoid: u8) -> Result<(), AllocError>
     ensures { is_ok result ≡ true → out.new.items ≡ out.old.items ++ head_bytes known layer avoid }
 {

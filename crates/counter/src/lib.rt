@@ -42,6 +42,7 @@ fn grid(rules: &Rules) -> Grid
     }
 }
 
+// One function for each field of a row: which bytes, the format says.
 impl<'a> Way<'a> {
     // The counterstrategy for the rules that fills the bytes; or the bytes end too early, or go on.
     pub fn read(rules: &Rules, bytes: &'a [u8]) -> Result<Way<'a>, Refusal>

@@ -1,6 +1,6 @@
 -- One step of the reader, as the code makes it.
 use Rattle.std.proofs.Common.{◌≡◌, ℕ, ◌-◌, min, ltb, List, length, take, Err, sym, refl, ◌∙◌, ⊎_elim, arith, take_all}
-use lib.Seq.{take-length}
+use Rattle.std.proofs.lemmas.List.{take_min}
 use Rattle.std.proofs.lemmas.Bool.{cases_lt}
 use Rattle.formula.specs.declared.scope.Scope.{Scope}
 use Rattle.formula.specs.declared.reading.Fault.{Fault}
@@ -8,19 +8,11 @@ use Rattle.formula.specs.Reading.{reading}
 use Rattle.game.specs.declared.refusal.Refusal.{Refusal}
 use Rattle.game.specs.Reading.{part, refused, read_byte, read_formula, judged, misread}
 
--- what is taken of a row stops at its end
-pub take_capped : (n : ℕ) (xs : List ℕ) → take (min n (length xs)) xs ≡ take n xs
-take_capped n xs =
-    ⊎_elim
-    (λ h. let e : min n (length xs) ≡ n = omega arith in rw e refl)
-    (λ h. let e : min n (length xs) ≡ length xs = omega arith in rw e (take-length xs ∙ sym (take_all n xs h)))
-    (cases_lt n (length xs))
-
 -- a formula by the length that was read, and by the bytes that the code took
 formula_step : (whole : ℕ) (sc : Scope) (bs rest front : List ℕ) (len : ℕ) → read_byte whole bs ≡ part len rest →
     front ≡ take (min len (length rest)) rest →
     read_formula whole sc bs ≡ judged whole (whole - length bs) len rest (reading sc front)
-formula_step whole sc bs rest front len b f = rw (b, f, take_capped len rest) refl
+formula_step whole sc bs rest front len b f = rw (b, f, take_min len rest) refl
 
 pub formula_fault : (whole whole' at : ℕ) (sc : Scope) (bs rest front : List ℕ) (len : ℕ) (e : Fault) (r : Refusal) →
     read_byte whole bs ≡ part len rest → whole' ≡ whole → at ≡ whole - length bs →

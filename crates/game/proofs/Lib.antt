@@ -1,3 +1,4 @@
+pub mod Turning
 pub mod FormulaSteps
 pub mod Rows
 pub mod Whole

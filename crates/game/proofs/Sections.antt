@@ -8,13 +8,6 @@ use Rattle.game.specs.Meaning.{value_of, number}
 use Rattle.game.proofs.Rows.{part_beyond, parts_get}
 use Rattle.game.proofs.Appending.{formulas_count}
 
-pub drop_capped : (n : ℕ) (xs : List ℕ) → drop (min n (length xs)) xs ≡ drop n xs
-drop_capped n xs =
-    ⊎_elim
-    (λ h. let e : min n (length xs) ≡ n = omega arith in rw e refl)
-    (λ h. let e : min n (length xs) ≡ length xs = omega arith in let k : length xs ≤ length xs = omega arith in rw e (drop_of_length-le xs k ∙ sym (drop_of_length-le xs h)))
-    (cases_lt n (length xs))
-
 -- formula i of a row, where it is one of the first n, and where it is not
 pub nth_get_or : (n i : ℕ) (bs : List ℕ) → i < n → nth_formula i bs ≡ get_or (formulas_of n bs) i []
 nth_get_or n i bs h =

@@ -21,7 +21,7 @@ pub enum Refusal {
     Count { at: usize },
     // a start state has a bit too many: its first byte
     Start { at: usize },
-    // lent memory is too short: 0 for that of the sets, 1 for the table's, 2 for the counterstrategy's
+    // lent memory is too short, by a number, as whoever makes a refusal may give any: 0 for that of the sets, 1 for the table's, 2 for the counterstrategy's
     Lent { which: usize },
     // a table does not hold together: the first state with a faulty row
     TableFault { state: usize },

@@ -16,6 +16,9 @@ pub const GOALS: u8 = 8;
 
 pub const STARTS: u8 = 16;
 
+// What stands in a table, and in the memory that the solver writes, where no promise is waited for.
+pub const NO_PROMISE: u8 = 8;
+
 // The most bytes of a rules file: three counts of bits, and with their lengths two step rules, a formula for each of 12
 // state bits, 8 promises and 8 goals; three counts, and 16 starts of two bytes.
 pub const MOST_FILE: u64 = 3 + 256 * (2 + 12 + 8 + 8) + 3 + 2 * 16;

@@ -47,6 +47,7 @@ impl<'a, P: Part<'a>> Section<'a, P> {
             return None;
         }
         let mut row = self.bytes;
+        // the parts differ in length, so there is no slice of them to go through
         for _ in 0..i {
             row = P::cut(row).1;
         }

@@ -1,6 +1,6 @@
 // The game of the rules, question by question: what may happen in a step, what follows, and what holds in a state.
 ghost use Rattle.std.specs.Prelude.{◌≡◌, ◌+◌, ◌<◌, nat_lt, if◌then◌else◌};
-ghost use Rattle.game.specs.Game.{next_around};
+ghost use Rattle.game.specs.Game.{goal_after, next_around};
 ghost use Rattle.game.specs.Content.{content};
 ghost use Rattle.game.specs.Meaning.{game_of};
 
@@ -41,6 +41,8 @@ impl Rules<'_> {
         )
     }
 
+    // The next two have names of their own, since the definitions have both; what they share is `Section::holds`.
+
     // Whether promise i holds in the state; one that there is not holds nowhere.
     pub fn promise_holds(&self, i: u8, state: u16) -> bool
         ensures { result ≡ (game_of (content self.now)).promise i state }
@@ -65,6 +67,17 @@ impl Rules<'_> {
             goal + 1
         } else {
             0
+        }
+    }
+
+    // The goal gone for after the state, where `goal` was gone for in it.
+    pub fn goal_after(&self, goal: u8, state: u16) -> u8
+        ensures { result ≡ goal_after (game_of (content self.now)) goal state }
+    {
+        if self.goal_holds(goal, state) {
+            self.next_goal(goal)
+        } else {
+            goal
         }
     }
 }

@@ -19,6 +19,7 @@ impl Rules<'_> {
         let before = out.len();
         match write_rules(*self, out) {
             Ok(()) => Ok(()),
+            // no `?`: what was written goes again
             Err(lacking) => {
                 out.truncate(before);
                 Err(lacking)

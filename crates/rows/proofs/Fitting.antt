@@ -2,12 +2,13 @@
 --   rows_fit, row_fits, few    places and counts fit
 --   no_row, cut_row, row_is    what the code cuts out is the row; a row that holds something is one of the grid's
 --   first_formulas             the formulas that count
---   no_value, held_goal, kept_held  what lacks does not hold: a goal or a promise that holds is one of those that there are
+--   no_value, kept_held  what lacks does not hold: a promise that holds is one of those that there are
 use Rattle.std.proofs.Common.{◌≡◌, ℕ, zero, suc, ◌+◌, ◌*◌, ◌^◌, ◌<◌, ◌≤◌, min, Bool, true, false, cond, ◌&&◌, ltb, ◌⊎◌, List, [], ◌∷◌, length, get_or, take, drop, sym, refl, ap, ◌∙◌, ⊎_elim, arith}
 use lib.Pow.{pow-lt}
 use Rattle.std.proofs.lemmas.Nat.{mul-le}
 use Rattle.std.proofs.lemmas.Bool.{cases_lt, le-ltb, lt-ltb, ltb-true, and_left, and_right, and_from, cond-false, cond-true, false≢true}
 use Rattle.formula.specs.Reading.{forest}
+use Rattle.game.proofs.Turning.{there}
 use Rattle.game.specs.Content.{Content, formulas_of}
 use Rattle.game.specs.Counterstrategy.{kept}
 use Rattle.game.specs.Meaning.{value_of, game_of}
@@ -73,18 +74,9 @@ pub no_value : (s e a : ℕ) → value_of [] s e a ≡ false
 unfolding forest
 no_value s e a = refl
 
--- a formula that holds is one of the row's
-held : (fs : List (List ℕ)) (i s : ℕ) → value_of (get_or fs i []) s 0 0 ≡ true → i < length fs
-held [] i s h = absurd (false≢true (sym (no_value s 0 0) ∙ h))
-held (f ∷ fs) zero s h = omega arith
-held (f ∷ fs) (suc i) s h = let more = held fs i s h in omega arith
-
-pub held_goal : (c : Content) (j s : ℕ) → (game_of c).goal j s ≡ true → j < (game_of c).goals
-held_goal c j s h = held c.goals j s h
-
 pub kept_held : (c : Content) (i s : ℕ) → (game_of c).promise i s ≡ kept (game_of c) i s
 kept_held c i s = by ((game_of c).promise i s) refl
   where
     by : (b : Bool) → (game_of c).promise i s ≡ b → b ≡ (ltb i (length c.promises) && b)
-    by true e = sym (and_from _ _ (lt-ltb i (length c.promises) (held c.promises i s e)) refl)
+    by true e = sym (and_from _ _ (lt-ltb i (length c.promises) (there c.promises i s e)) refl)
     by false e = sym (and_right (ltb i (length c.promises)) false refl)

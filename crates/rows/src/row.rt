@@ -26,7 +26,7 @@ pub struct Rows<'a> {
 }
 
 // The bytes from a place on, so many or as far as there are any.
-#[tactic(auto, using(game::proofs::FormulaSteps::take_capped, game::proofs::Sections::drop_capped))]
+#[tactic(auto, using(std::proofs::lemmas::List::take_min, std::proofs::lemmas::List::drop_min))]
 pub(crate) fn part<'a>(bytes: &'a [u8], from: usize, length: usize) -> &'a [u8]
     ensures { result.now ≡ take length (drop from bytes.now) }
 {

@@ -33,9 +33,6 @@ most_moves b = pow_mono {i = min b 6} {j = 6} (omega arith)
 pub entry_state : (k n b m : ℕ) → m ≡ 2 ^ b → k < n * 2 ^ b → k / m < n
 entry_state k n b m e h = rw e (div_below k (2 ^ b) n (pow_pos b) h)
 
-pub entry_move : (k b m : ℕ) → m ≡ 2 ^ b → k % m < 2 ^ b
-entry_move k b m e = rw e (mod_below k (2 ^ b) (pow_pos b))
-
 -- the values of an entry, where its move is legal; and none where it is not
 pub given_legal : (x : ℕ) (b legal : Bool) (v : ℕ → Bool) → b ≡ legal → b ≡ true → Spread x v → Spread x (λ a. legal && v a)
 given_legal x b legal v e t values l h = rw (← e, t) (values l h)

@@ -52,6 +52,8 @@ impl Arena<'_> {
         self.next[(s * self.moves + e) * self.answers + a] as usize
     }
 
+    // The next two have names of their own, since the definitions have both; what they share is `bit_of`.
+
     // Whether promise `i` holds in the state `s`.
     pub fn keeps(self, i: usize, s: usize) -> bool
         requires state { s < self.states }

@@ -52,6 +52,7 @@ fn tabulate_allowed(rules: &Rules<'_>, legal: &[u64], allowed: &mut [u64])
     ensures { AllowedTable (game_of (content rules.now)) (move_count (content rules.now)) legal.now allowed.new }
 {
     let moves = rules.widths.moves() as usize;
+    // a step's state and move are parts of its number: of rows that `chunks_exact_mut` lends, a proof knows the length alone
     for (k, word) in allowed.iter_mut().enumerate() {
         let (state, moved) = (k / moves, k % moves);
         *word = if has_bit(legal[state], moved) {

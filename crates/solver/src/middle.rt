@@ -10,12 +10,9 @@ ghost use Rattle.solver.specs.Sweep.{Decided, Written};
 
 use super::numbered::Numbered;
 use super::work::Work;
+use game::rules::NO_PROMISE;
 use sets::arena::Arena;
 use sets::set::{has, put};
-
-// What a rank that waits for no promise has in place of a promise's number. No Option: what is written is a byte of the
-// table, whose format says 8.
-pub const NONE: u8 = 8;
 
 // Whether goal `j` holds in the state `s` of the zone, and the controller can stay in the zone.
 fn is_hit(arena: Arena<'_>, zone: &[u8], j: usize, s: usize) -> bool
@@ -95,7 +92,7 @@ impl Work<'_, '_> {
         ensures rounded { Rounded (arena_game self.old.arena) self.old.arena.states (member zone.now) j reach.old.set.now turns.old next self.old.arena.promise_count reach.new.set.now reach.new.numbers.now reach.new.names.now turns.new result }
     {
         let base = &mut *self.base;
-        let mut rank = reach.adopt(base, true, next, NONE);
+        let mut rank = reach.adopt(base, true, next, NO_PROMISE);
         let states = self.arena.states;
         // by number: of rows that `chunks_mut` lends, the proof would know no entry afterwards
         for i in 0..self.arena.promise_count {

@@ -8,11 +8,11 @@ ghost use Rattle.table.specs.Plans.{sheet_of, plan_of};
 ghost use Rattle.table.specs.Sound.{waits_fits, answers_fit, steps_sound, row_sound, state_sound};
 ghost use Rattle.table.specs.Steps.{StandsFor, onward, LegalIn, StepsOf, step_by};
 
-use crate::{NO_PROMISE, Table};
+use crate::Table;
 use formula::bits::has_bit;
 use formula::lanes::{self, Neighbours, Same};
 use game::refusal::Refusal;
-use game::rules::Rules;
+use game::rules::{NO_PROMISE, Rules};
 use rows::judge::Reasons;
 use rows::lanes::{Column, afters, lane_number};
 use rows::row::Row;
@@ -67,11 +67,7 @@ impl Check<'_> {
         ensures { StandsFor (game_of (content self.now.rules)) (plan_of (sheet_of self.now.table)) goal state result }
     {
         let reached = self.rules.goal_holds(goal, state);
-        let then = if reached {
-            self.rules.next_goal(goal)
-        } else {
-            goal
-        };
+        let then = self.rules.goal_after(goal, state);
         let rank = self.table.rank(goal, state);
         let waits = self.table.waits(goal, state);
         Here {
@@ -182,6 +178,7 @@ impl Reasons for Check<'_> {
         self.table.known(0, state)
     }
 
+    // the refusal is all that differs from a counterstrategy's
     fn fault(&self, state: u16) -> Refusal {
         Refusal::TableFault {
             state: state as usize,

@@ -4,7 +4,8 @@ ghost use Rattle.table.specs.Written.{row_bytes, TableWritten, TableRead};
 
 use std::alloc::AllocError;
 
-// Appends a row: known, the answer to each move, the rank, and the promise waited for.
+// Appends a row: known, the answer to each move, the rank, and the promise waited for. A row that is not known has all of
+// its bytes too.
 pub fn write_row(
     out: &mut Vec<u8>,
     known: bool,

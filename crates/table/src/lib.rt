@@ -11,13 +11,11 @@ pub mod laws;
 
 use check::Check;
 use game::refusal::Refusal;
+pub use game::rules::NO_PROMISE;
 use game::rules::Rules;
 use rows::judge;
 use rows::judge::Accepted;
 use rows::row::{Grid, Rows};
-
-// What a row's last byte holds where no promise is waited for.
-pub const NO_PROMISE: u8 = 8;
 
 // The bytes of a table, row by row, and how many moves a row answers.
 #[derive(Clone, Copy)]
@@ -38,6 +36,7 @@ fn grid(rules: &Rules) -> Grid
     }
 }
 
+// One function for each field of a row: which bytes, the format says.
 impl<'a> Table<'a> {
     // The table for the rules that fills the bytes; or the bytes end too early, or go on.
     pub fn read(rules: &Rules, bytes: &'a [u8]) -> Result<Table<'a>, Refusal>

@@ -1,6 +1,6 @@
 use Rattle.std.proofs.Common.{◌≡◌, min, [], ◌∷◌, length, take, vec_items, sym, refl, ap, ◌∙◌, arith, length-take}
 use Rattle.std.proofs.lemmas.Slice.{pushed}
-use Rattle.game.proofs.FormulaSteps.{take_capped}
+use Rattle.std.proofs.lemmas.List.{take_min}
 use Rattle.game.proofs.Appending.{appended_once, appended_more, appended_as}
 use Rattle.game.proofs.writer.write_formula.Goals as goal
 
@@ -9,7 +9,7 @@ returns c =
     let bytes = c.args.formula.bytes.now in
     let len = c.min-len.result in
     let short : min 255 (length bytes) ≡ len = omega (arith, c.min-len.ensures) in
-    let front : take len bytes ≡ take 255 bytes = ap (λ n. take n bytes) (sym short) ∙ take_capped 255 bytes in
+    let front : take len bytes ≡ take 255 bytes = ap (λ n. take n bytes) (sym short) ∙ take_min 255 bytes in
     let long : len ≡ length (take 255 bytes) = sym (length-take 255 bytes ∙ short) in
     appended_as (vec_items c.args.out.now) (vec_items c.extend_from_slice.new.self) c.extend_from_slice.result
     (ap (λ n. n ∷ take len bytes) long ∙ ap (λ bs. length (take 255 bytes) ∷ bs) front)

@@ -1,4 +1,4 @@
--- The goal gone for after a state.
+-- The goal gone for after a state, as the rules compute it.
 --   stays   where the goal does not hold, it is still gone for
 --   turns   where it holds, the next one around is
 --   there   a goal that holds somewhere is one of those that there are
