@@ -13,28 +13,14 @@ pub enum Failure<'a> {
     // something that was given is refused
     Refused(Refusal),
     // the words are no command of the program
-    Misused {
-        program: &'static str,
-        usage: &'static str,
-    },
+    Misused { program: &'a str, usage: &'a str },
     // a file that can't be read, and one that can't be written
-    Unreadable {
-        path: &'a str,
-        error: io::Error,
-    },
-    Unwritable {
-        path: &'a str,
-        error: io::Error,
-    },
+    Unreadable { path: &'a str, error: io::Error },
+    Unwritable { path: &'a str, error: io::Error },
     // more moves on standard input than a run may have
-    TooManyMoves {
-        most: u64,
-    },
+    TooManyMoves { most: u64 },
     // a text that is no number of a start, of as many as the rules have
-    NoStart {
-        text: &'a str,
-        count: u8,
-    },
+    NoStart { text: &'a str, count: u8 },
     // what else ended the work: a stream that is closed, want of memory
     Io(io::Error),
     Memory(AllocError),

@@ -28,25 +28,34 @@ pub fn run<P: Program>(rt: &HostRuntime) -> ExitCode
     ensures { exit_status result ≤ 1 }
 {
     match words(rt) {
-        Ok(words) => ending(rt, P::NAME, P::work(rt, &words)),
-        Err(error) => ending(rt, P::NAME, Err(Failure::Io(error))),
+        Ok(words) => told(rt, P::NAME, P::work(rt, &words)),
+        Err(error) => told(rt, P::NAME, Err(Failure::Io(error))),
     }
 }
 
-// How a program ends, and what it says then: a refusal on standard output; on standard error wrong usage, and what else
+// What a program says at its end, and how it ends: a refusal on standard output; on standard error wrong usage, and what else
 // somebody can set right. What else ended the work (closed output, want of memory) is not told.
-pub fn ending(rt: &HostRuntime, program: &str, outcome: Result<(), Failure<'_>>) -> ExitCode
+pub fn told(rt: &HostRuntime, program: &str, outcome: Result<(), Failure<'_>>) -> ExitCode
     ensures { exit_status result ≡ (if is_ok outcome.entry then 0 else 1) }
 {
-    let Err(failure) = outcome else {
-        return ExitCode::SUCCESS;
-    };
-    let _ = match failure {
-        Failure::Refused(_) => println!(rt; "{failure}"),
-        Failure::Io(_) | Failure::Memory(_) => Ok(()),
-        _ => eprintln!(rt; "{program}: {failure}"),
-    };
-    ExitCode::FAILURE
+    if let Err(failure) = outcome {
+        let _ = match failure {
+            Failure::Refused(_) => println!(rt; "{failure}"),
+            Failure::Io(_) | Failure::Memory(_) => Ok(()),
+            _ => eprintln!(rt; "{program}: {failure}"),
+        };
+    }
+    ending(outcome)
+}
+
+// How a program ends, whatever its errors are: with status 0, or 1 where its work failed.
+pub fn ending<E: Drop>(outcome: Result<(), E>) -> ExitCode
+    ensures { exit_status result ≡ (if is_ok outcome then 0 else 1) }
+{
+    match outcome {
+        Ok(()) => ExitCode::SUCCESS,
+        Err(_) => ExitCode::FAILURE,
+    }
 }
 
 // The arguments after the program's own name.

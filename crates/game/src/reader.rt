@@ -11,7 +11,6 @@ use crate::widths::{ANSWER_BITS, MOVE_BITS, STATE_BITS, Widths};
 use formula::Formula;
 use formula::reading::Fault;
 use formula::scope::Scope;
-use std::marker::PhantomData;
 
 // The bytes that are left of a file, and the file's length: a place is that length less what is left from there.
 #[derive(Drop)]
@@ -123,11 +122,7 @@ impl<'a> Reader<'a> {
         for _ in 0..n {
             P::read(self, limit)?;
         }
-        Ok(Section {
-            count: n,
-            bytes,
-            of: PhantomData,
-        })
+        Ok(Section::new(n, bytes))
     }
 
     // A count and that many parts.

@@ -6,9 +6,10 @@ ghost use Rattle.game.specs.Laws.{Appended};
 ghost use Rattle.game.specs.Meaning.{number, value_of};
 
 use crate::part::Part;
-use crate::rules::{Section, Starts};
+use crate::rules::{Section, Starts, States};
 use formula::Formula;
 use std::alloc::AllocError;
+use std::marker::PhantomData;
 
 // The first formula of a row, and the row after it; both are empty where the row is.
 pub fn cut<'a>(bytes: &'a [u8]) -> (Formula<'a>, &'a [u8])
@@ -38,6 +39,20 @@ pub fn spelt(bytes: &[u8], n: u8, state: u16, moved: u8, answer: u8) -> u16
     low + 2 * high
 }
 
+impl<'a, P> Section<'a, P> {
+    // So many parts of a row that is lent, as the reader takes them, and whoever makes rules by hand.
+    pub fn new(count: u8, bytes: &'a [u8]) -> Section<'a, P>
+        ensures count { result.count ≡ count }
+        ensures bytes { result.bytes.now ≡ bytes.now }
+    {
+        Section {
+            count,
+            bytes,
+            of: PhantomData,
+        }
+    }
+}
+
 impl<'a, P: Part<'a>> Section<'a, P> {
     // The part of a number.
     pub(crate) fn nth(self, i: u8) -> Option<P::Item>
@@ -47,7 +62,7 @@ impl<'a, P: Part<'a>> Section<'a, P> {
             return None;
         }
         let mut row = self.bytes;
-        // the parts differ in length, so there is no slice of them to go through
+        // parts of a kind may differ in length, so there is no slice of them to go through
         for _ in 0..i {
             row = P::cut(row).1;
         }
@@ -112,10 +127,16 @@ impl<'a> Section<'a> {
 }
 
 impl Starts<'_> {
-    // The start of a number; 0 where there is none.
+    // The start of a number; 0 where there is none. Each has two bytes, so no walk leads to it.
     pub fn get(self, i: u8) -> u16
         ensures { result ≡ slice_index (starts_of self.entry.count self.entry.bytes.now) i }
     {
-        self.nth(i).unwrap_or(0)
+        if i < self.count {
+            let at = 2 * i as usize;
+            let (_, row) = self.bytes.split_at(at.min(self.bytes.len()));
+            States::cut(row).0
+        } else {
+            0
+        }
     }
 }

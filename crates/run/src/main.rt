@@ -103,7 +103,8 @@ fn try_line(rt: &HostRuntime, controller: &mut Controller<'_>, line: &[u8]) -> i
 // Asks for moves one by one, until the end of input.
 fn ask(rt: &HostRuntime, mut controller: Controller<'_>) -> io::Result<()> {
     let heap = rt.alloc();
-    let mut input = BufReader::new(heap, rt.reader())?;
+    // a byte at a time: what comes after the last line that was asked for is left to the next reader
+    let mut input = BufReader::with_capacity(heap, 1, rt.stdin())?;
     // a bound, since each loop has to end, and the input need not
     for _ in 0..u64::MAX {
         let state = controller.state;

@@ -7,7 +7,8 @@ use super::needs::Needs;
 use super::solve::solve_front;
 use game::refusal::Refusal;
 use game::rules::Rules;
-use sets::tabulate::{Tables, tabulate};
+pub use sets::tabulate::Tables;
+use sets::tabulate::tabulate;
 
 // Solves the game of the rules that the file holds: who wins from each state, with a table with reasons for the
 // controller's states, and a counterstrategy for the environment's. Returns how many rounds the outer loop took. A file
@@ -35,7 +36,9 @@ pub fn solve_rules(
     if !fits {
         return Err(Refusal::from(Short::Sets));
     }
-    needs.check(sets, &table, &way)?;
+    if let Err(short) = needs.check(sets, &table, &way) {
+        return Err(Refusal::from(short));
+    }
     let Tables {
         legal,
         allowed,

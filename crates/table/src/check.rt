@@ -67,7 +67,12 @@ impl Check<'_> {
         ensures { StandsFor (game_of (content self.now.rules)) (plan_of (sheet_of self.now.table)) goal state result }
     {
         let reached = self.rules.goal_holds(goal, state);
-        let then = self.rules.goal_after(goal, state);
+        // not by `goal_after`, which would evaluate the goal once more
+        let then = if reached {
+            self.rules.next_goal(goal)
+        } else {
+            goal
+        };
         let rank = self.table.rank(goal, state);
         let waits = self.table.waits(goal, state);
         Here {

@@ -12,7 +12,7 @@ solve_front-requires c =
     let r = content c.in_ok-rules.rules in
     let t = c.tabulate-arena.ensures in
     let a = c.tabulate-arena.result in
-    let k = c.in_ok-check.ensures in
+    let k = c.in_default.ensures in
     let l = all_lent c.args.game.legal.now c.args.game.allowed.now c.args.game.next.now c.args.game.promises.now c.args.game.goals.now c.args.sets.now
     (lent c.args.table.known.now c.args.table.answers.now c.args.table.ranks.now c.args.table.waits.now c.args.way.layers.now c.args.way.avoids.now c.args.way.moves.now c.args.way.ranks.now) in
     fits_arena r a _ l (c.from-needs.ensures ∙ sym (same_sizes r a t.states t.moves t.agrees))
@@ -26,7 +26,7 @@ returns c =
     let a = c.tabulate-arena.result in
     let e = c.from-needs.ensures in
     let f = c.solve_front.ensures in
-    let k = c.in_ok-check.ensures in
+    let k = c.in_default.ensures in
     let w = c.game_fits-fits.ensures.0 c.if-not-fits.false in
     let l = all_lent c.args.game.legal.now c.args.game.allowed.now c.args.game.next.now c.args.game.promises.now c.args.game.goals.now c.args.sets.now
     (lent c.args.table.known.now c.args.table.answers.now c.args.table.ranks.now c.args.table.waits.now c.args.way.layers.now c.args.way.avoids.now c.args.way.moves.now c.args.way.ranks.now) in (
